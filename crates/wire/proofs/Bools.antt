@@ -1,0 +1,52 @@
+-- Laws of tests that are joined, negated, or branched on.
+-- Assumes nothing.
+use Prim.Native.Nat.{ℕ, _≤_}
+use mathlib.Core.Path.{_≡_, refl, sym, _∙_}
+use mathlib.Core.Bool.{Bool, true, false, cond, not, _&&_, false≢true}
+use borrow.Author.Tests.{not-true, not-false, leb-true, le-leb}
+use lib.Dec.{leb}
+use Rattle.wire.specs.Tests.{within}
+
+pub and-left : (a b : Bool) → (a && b) ≡ true → a ≡ true
+and-left true b e = refl
+and-left false b e = e
+
+pub and-right : (a b : Bool) → (a && b) ≡ true → b ≡ true
+and-right true b e = e
+and-right false b e = absurd (false≢true e)
+
+-- a test that cannot hold fails
+pub refuted : (b : Bool) → (b ≡ true → ⊥) → b ≡ false
+refuted true h = absurd (h refl)
+refuted false h = refl
+
+-- which side of a choice an answer shows
+pub cond-true : {A : Type 0} (b : Bool) (a d : A) {r : A} → cond b a d ≡ r → (d ≡ r → ⊥) → true ≡ b
+cond-true true a d e n = refl
+cond-true false a d e n = absurd (n e)
+
+pub cond-false : {A : Type 0} (b : Bool) (a d : A) {r : A} → cond b a d ≡ r → (a ≡ r → ⊥) → false ≡ b
+cond-false true a d e n = absurd (n e)
+cond-false false a d e n = refl
+
+pub cond-le : (t : Bool) {a b n : ℕ} → a ≤ n → b ≤ n → cond t a b ≤ n
+cond-le true ha hb = ha
+cond-le false ha hb = hb
+
+-- what a callee's flag r told of the test t that it answers, where the code branched on `!r`
+pub yes : {r t : Bool} → r ≡ t → not r ≡ false → t ≡ true
+yes {r} e f = sym e ∙ not-false r f
+
+pub no : {r t : Bool} → r ≡ t → not r ≡ true → t ≡ false
+no {r} e f = sym e ∙ not-true r f
+
+-- a number within a range, and the range of a number
+pub record Range (lo hi x : ℕ) : Type 0 where
+  pub least : lo ≤ x
+  pub most : x ≤ hi
+
+pub range : (lo hi x : ℕ) → within lo hi x ≡ true → Range lo hi x
+range lo hi x e = record { least = leb-true lo x (and-left (leb lo x) (leb x hi) e); most = leb-true x hi (and-right (leb lo x) (leb x hi) e) }
+
+pub in-range : (lo hi x : ℕ) → lo ≤ x → x ≤ hi → within lo hi x ≡ true
+in-range lo hi x l h = rw (le-leb lo x l, le-leb x hi h)

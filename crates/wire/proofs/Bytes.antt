@@ -1,0 +1,53 @@
+-- Laws of numbers in bytes: past the end stand zeros, and a number that was written is read again.
+-- Assumes nothing.
+use Prim.Native.Nat.{ℕ, _+_, _*_, _/_, _%_, _≤_, _<_}
+use native.Mathlib.Omega.{arith}
+use native.Mathlib.Nat.{div-div-eq-div-mul}
+use mathlib.Core.Path.{_≡_, _∙_}
+use mathlib.Core.List.{List, [], _∷_, _++_, append-assoc}
+use lib.ListN.{length, getD, List·getD-eq-default}
+use lib.Seq.{getD-append-add}
+use Rattle.wire.specs.Bytes.{u16At, u32At, u16Bytes, u32Bytes}
+
+module _ (S : List ℕ) (i : ℕ) where
+  pub u16-past : length S ≤ i → u16At S i ≡ 0
+  unfolding u16At
+  u16-past h = omega (arith, List·getD-eq-default S 0 {n = i} h, List·getD-eq-default S 0 {n = i + 1} (omega arith))
+
+module _ (S : List ℕ) (i : ℕ) where
+  pub u32-short : length S ≤ i + 2 → u32At S i ≡ u16At S i
+  unfolding u32At
+  u32-short h = omega (arith, u16-past S (i + 2) h)
+
+  pub u32-past : length S ≤ i → u32At S i ≡ 0
+  u32-past h = u32-short (omega arith) ∙ u16-past S i h
+
+-- a reading behind a front is that of the rest
+module _ (xs ys : List ℕ) (i : ℕ) where
+  pub u16-behind : u16At (xs ++ ys) (length xs + i) ≡ u16At ys i
+  unfolding u16At
+  u16-behind =
+      let next : length xs + i + 1 ≡ length xs + (i + 1) = omega arith in
+      rw (next, getD-append-add, getD-append-add)
+
+module _ (xs ys : List ℕ) (i : ℕ) where
+  pub u32-behind : u32At (xs ++ ys) (length xs + i) ≡ u32At ys i
+  unfolding u32At
+  u32-behind =
+      let next : length xs + i + 2 ≡ length xs + (i + 2) = omega arith in
+      rw (next, u16-behind, u16-behind)
+
+-- a number within its range, written and read again, is itself
+two-bytes : (n : ℕ) → n < 65536 → n % 256 + 256 * (n / 256 % 256) ≡ n
+two-bytes n h = omega arith
+
+pub u16-again : (n : ℕ) (rest : List ℕ) → n < 65536 → u16At (u16Bytes n ++ rest) 0 ≡ n
+unfolding u16At
+u16-again n rest h = two-bytes n h
+
+pub u32-again : (n : ℕ) (rest : List ℕ) → n < 4294967296 → u32At (u32Bytes n ++ rest) 0 ≡ n
+unfolding u32At u16At
+u32-again n rest h =
+    let low : n % 256 + 256 * (n / 256 % 256) ≡ n % 65536 = omega arith in
+    let high : n / 65536 % 256 + 256 * (n / 16777216 % 256) ≡ n / 65536 = rw (← div-div-eq-div-mul n 65536 256) (two-bytes (n / 65536) (omega arith)) in
+    omega arith

@@ -1,0 +1,58 @@
+-- Laws of sums and counts.
+-- Assumes nothing.
+use Prim.Native.Nat.{ℕ, zero, suc, _+_, _*_, _≤_, _<_, zero-le}
+use mathlib.Core.Path.{_≡_, refl, ap₂}
+use mathlib.Core.Bool.{Bool, true, false, cond}
+use native.Mathlib.Nat.{le-refl, add-le-add, mul-add, suc-mul}
+use native.Mathlib.Numerals.{add-one}
+use native.Mathlib.Omega.{arith}
+use Rattle.wire.specs.Sums.{bit, sum, count}
+
+pub sum-none : (f : ℕ → ℕ) → sum 0 f ≡ 0
+unfolding sum
+sum-none f = refl
+
+pub sum-more : (n : ℕ) (f : ℕ → ℕ) → sum (n + 1) f ≡ sum n f + f n
+unfolding sum
+sum-more n f = rw add-one
+
+pub sum-le : (n : ℕ) (f g : ℕ → ℕ) → ((i : ℕ) → i < n → f i ≤ g i) → sum n f ≤ sum n g
+unfolding sum
+sum-le zero f g h = omega arith
+sum-le (suc n) f g h = add-le-add (sum-le n f g (λ i l. h i (omega arith))) (h n (le-refl _))
+
+-- what is the same below n has the same sum
+pub sum-same : (n : ℕ) (f g : ℕ → ℕ) → ((i : ℕ) → i < n → f i ≡ g i) → sum n f ≡ sum n g
+unfolding sum
+sum-same zero f g h = refl
+sum-same (suc n) f g h = ap₂ _+_ (sum-same n f g (λ i l. h i (omega arith))) (h n (omega arith))
+
+pub sum-add : (n : ℕ) (f g : ℕ → ℕ) → sum n (λ i. f i + g i) ≡ sum n f + sum n g
+unfolding sum
+sum-add zero f g = refl
+sum-add (suc n) f g = omega (arith, sum-add n f g)
+
+-- n numbers that are at most b
+pub sum-most : (n b : ℕ) (f : ℕ → ℕ) → ((i : ℕ) → i < n → f i ≤ b) → sum n f ≤ n * b
+unfolding sum
+sum-most zero b f h = zero-le
+sum-most (suc n) b f h = rw suc-mul (add-le-add (sum-most n b f (λ i l. h i (omega arith))) (h n (le-refl _)))
+
+pub bit-most : (b : Bool) → bit b ≤ 1
+bit-most true = omega arith
+bit-most false = omega arith
+
+pub count-most : (n : ℕ) (p : ℕ → Bool) → count n p ≤ n
+unfolding sum
+count-most zero p = omega arith
+count-most (suc n) p = omega (arith, count-most n p, bit-most (p n))
+
+-- where each that passes costs the same
+cost-step : (b : Bool) (d m n : ℕ) → m ≡ d * n → m + cond b d 0 ≡ d * (n + bit b)
+cost-step true d m n e = omega (arith, mul-add d n 1)
+cost-step false d m n e = omega (arith, mul-add d n 0)
+
+pub sum-cost : (n d : ℕ) (p : ℕ → Bool) → sum n (λ i. cond (p i) d 0) ≡ d * count n p
+unfolding sum
+sum-cost zero d p = omega arith
+sum-cost (suc n) d p = cost-step (p n) d _ _ (sum-cost n d p)

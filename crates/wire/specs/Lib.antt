@@ -1,0 +1,4 @@
+pub mod Tests
+pub mod Sums
+pub mod Lists
+pub mod Bytes

@@ -1,0 +1,34 @@
+// Little-endian numbers of a byte string. Every reader is total: past the end stand zeros.
+ghost use mathlib.Core.Path.{_≡_};
+ghost use lib.ListN.{getD};
+ghost use Rattle.wire.specs.Bytes.{u16At, u32At};
+
+// The byte at a place.
+pub fn byte_at(s: &[u8], at: usize) -> u8
+    ensures { λ r. ⌜ r ≡ getD (now (s .entry)) at 0 ⌝ }
+{
+    if at < s.len() { s[at] } else { 0 }
+}
+
+// The number of two bytes at a place.
+pub fn u16_at(s: &[u8], at: usize) -> u16
+    ensures { λ r. ⌜ r ≡ u16At (now (s .entry)) at ⌝ }
+{
+    if s.len() <= at {
+        return 0;
+    }
+    byte_at(s, at) as u16 + 256 * (byte_at(s, at + 1) as u16)
+}
+
+// The number of four bytes at a place.
+pub fn u32_at(s: &[u8], at: usize) -> u32
+    ensures { λ r. ⌜ r ≡ u32At (now (s .entry)) at ⌝ }
+{
+    if s.len() <= at {
+        return 0;
+    }
+    if s.len() - at <= 2 {
+        return u16_at(s, at) as u32;
+    }
+    u16_at(s, at) as u32 + 65536 * (u16_at(s, at + 2) as u32)
+}
