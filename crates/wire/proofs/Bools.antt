@@ -3,8 +3,9 @@
 use Prim.Native.Nat.{ℕ, _≤_}
 use mathlib.Core.Path.{_≡_, refl, sym, _∙_}
 use mathlib.Core.Bool.{Bool, true, false, cond, not, _&&_, false≢true}
-use borrow.Author.Tests.{not-true, not-false, leb-true, le-leb}
-use lib.Dec.{leb}
+use native.Mathlib.Nat.{le-refl}
+use borrow.Author.Tests.{not-true, not-false, leb-true, leb-false, le-leb, le-ltb, lt-ltb}
+use lib.Dec.{leb, ltb}
 use Rattle.wire.specs.Tests.{within}
 
 pub and-left : (a b : Bool) → (a && b) ≡ true → a ≡ true
@@ -32,6 +33,22 @@ cond-false false a d e n = refl
 pub cond-le : (t : Bool) {a b n : ℕ} → a ≤ n → b ≤ n → cond t a b ≤ n
 cond-le true ha hb = ha
 cond-le false ha hb = hb
+
+pub cond-and : (a b : Bool) (n : ℕ) → cond a (cond b n 0) 0 ≡ cond (a && b) n 0
+cond-and true b n = refl
+cond-and false b n = refl
+
+-- a value that counts only where the test holds
+pub cond-where : (p : Bool) {x y : ℕ} → (p ≡ true → x ≤ y) → cond p x 0 ≤ cond p y 0
+cond-where true h = h refl
+cond-where false h = le-refl 0
+
+pub ltb-leb : (a b : ℕ) → ltb b a ≡ not (leb a b)
+ltb-leb a b = go (leb a b) refl
+  where
+    go : (x : Bool) → leb a b ≡ x → ltb b a ≡ not x
+    go true e = le-ltb b a (leb-true a b e)
+    go false e = lt-ltb b a (leb-false a b e)
 
 -- what a callee's flag r told of the test t that it answers, where the code branched on `!r`
 pub yes : {r t : Bool} → r ≡ t → not r ≡ false → t ≡ true

@@ -2,7 +2,7 @@
 -- Assumes nothing.
 use Prim.Native.Nat.{ℕ, _≤_}
 use mathlib.Core.Path.{_≡_, refl}
-use mathlib.Core.Bool.{Bool, true, false, not, _&&_}
+use mathlib.Core.Bool.{Bool, true, false, cond, not, _&&_}
 use native.Mathlib.Omega.{arith}
 use lib.Dec.{leb}
 use borrow.Author.Tests.{leb-true, leb-false}
@@ -39,3 +39,15 @@ leb-⇒ {a} {a′} {b} {b′} h k = go (leb a b) (leb a′ b′) refl refl
     go false y p q = omega arith
     go true true p q = omega arith
     go true false p q = omega (arith, leb-true a b p, leb-false a′ b′ q)
+
+pub follows : {a b : Bool} → a ⇒ b → a ≡ true → b ≡ true
+follows {b = true} h e = refl
+follows {a = true} {b = false} h e = absurd (omega arith)
+follows {a = false} {b = false} h e = e
+
+-- the greater value is chosen more often, and the other does not fall
+pub cond-rises : {p p′ : Bool} {a b b′ : ℕ} → p ⇒ p′ → b ≤ b′ → b ≤ a → cond p a b ≤ cond p′ a b′
+cond-rises {p = true} {p′ = true} h k l = omega arith
+cond-rises {p = true} {p′ = false} h k l = omega arith
+cond-rises {p = false} {p′ = true} h k l = l
+cond-rises {p = false} {p′ = false} h k l = k

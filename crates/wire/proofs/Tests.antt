@@ -4,8 +4,8 @@ use Prim.Native.Nat.{ℕ, zero, suc, _+_, _-_, _≤_, _<_}
 use native.Mathlib.Omega.{arith}
 use native.Mathlib.Numerals.{add-one}
 use mathlib.Core.Path.{_≡_, refl, sym, _∙_, ap}
-use mathlib.Core.Bool.{Bool, true, false, cond, not, _&&_, false≢true}
-use mathlib.Core.List.{List, [], _∷_}
+use mathlib.Core.Bool.{Bool, true, false, cond, not, _&&_, and-true, and-assoc, false≢true}
+use mathlib.Core.List.{List, [], _∷_, foldl}
 use lib.Dec.{eqb, ltb}
 use borrow.Author.Tests.{eq-eqb, eqb-true, eqb-false, ltb-false}
 use Rattle.wire.specs.Tests.{choose, all, seekIn, seek, some}
@@ -64,6 +64,12 @@ pub each : (bs : List Bool) → all bs ≡ true → Every bs
 unfolding all
 each [] e = tt
 each (b ∷ bs) e = (and-left b (all bs) e, each bs (and-right b (all bs) e))
+
+-- tests joined from the left, as code does by `&`
+pub and-all : (b : Bool) (bs : List Bool) → foldl _&&_ b bs ≡ all (b ∷ bs)
+unfolding all
+and-all b [] = sym (and-true b)
+and-all b (x ∷ xs) = and-all (b && x) xs ∙ and-assoc b x (all xs)
 
 -- a search's turns: it stops here, goes on to the next place, or has passed the last
 module _ (i n : ℕ) (p : ℕ → Bool) where
