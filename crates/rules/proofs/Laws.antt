@@ -1,0 +1,25 @@
+-- The laws of the rules, each from the file that proves it, and version 9.6's factors, which fall.
+-- Assumes nothing.
+use native.Mathlib.Omega.{arith}
+use Rattle.rules.specs.Verdict.{Rules, Falling, version96}
+use Rattle.rules.specs.Laws.{Laws}
+use Rattle.wire.proofs.Implies.{follows}
+use Rattle.rules.proofs.Verdict.{fails, severe, violation-falls, severe-falls}
+use Rattle.rules.proofs.Bills.{adds-up, dollars}
+use Rattle.rules.proofs.Lighter.{eased, exempt-stays, amount-lighter}
+
+pub laws : (P : Rules) → Falling P → Laws P
+laws P F =
+    record {
+      fails = fails P;
+      severe = severe P;
+      lighter-code =
+          λ B d t′ t h. record { violation = follows (violation-falls P F (eased h) B); severe = follows (severe-falls P F (eased h) B) };
+      lighter-exempt = λ s c′ c h g hg. follows (exempt-stays P F s c′ c h g hg);
+      lighter-amount = amount-lighter P F;
+      adds-up = adds-up P;
+      dollars = dollars P;
+    }
+
+pub falling96 : Falling version96
+falling96 = omega arith

@@ -1,0 +1,5 @@
+pub mod Verdict
+pub mod Marks
+pub mod Bills
+pub mod Lighter
+pub mod Laws

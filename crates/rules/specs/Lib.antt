@@ -1,0 +1,7 @@
+pub mod Verdict
+pub mod Month
+pub mod Marks
+pub mod Lighter
+pub mod Laws
+pub mod Marked
+pub mod Misread

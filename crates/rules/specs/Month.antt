@@ -1,0 +1,49 @@
+-- A firm's month: its counted days, their sums, and the monthly exemption (document 01, "The month"; the Program, section 10).
+-- Assumes nothing.
+use Prim.Native.Nat.{ℕ, _+_, _*_}
+use mathlib.Core.Bool.{Bool, cond, not, _&&_, _||_}
+use lib.Dec.{leb, ltb}
+use Rattle.wire.specs.Sums.{sum}
+use Rattle.rules.specs.Verdict.{Rules, exceeds}
+use Rattle.rules.specs.declared.Totals.{Totals}
+
+-- what the schedule says of the month: how many groups it lists, which days (from 1) are in effect, and each group's benchmark and exchange
+-- grouping, the groups by their place (from 0)
+pub record Terms : Type 0 where
+  pub groups : ℕ
+  pub effect : (day : ℕ) → Bool
+  pub benchmark : (g : ℕ) → ℕ
+  pub grouping : (g : ℕ) → ℕ
+
+-- a firm's totals, by group and day
+abbrev pub Cells : Type 0
+Cells = (g day : ℕ) → Totals
+
+module _ (s : Terms) (c : Cells) where
+  -- counted days are days in effect with raw above zero
+  abbrev pub counted : (g day : ℕ) → Bool
+  counted g day = s .effect day && ltb 0 (c g day .raw)
+
+  -- a sum over the counted days of a group
+  abbrev pub overCounted : (g : ℕ) → (Totals → ℕ) → ℕ
+  overCounted g f = sum 31 (λ i. cond (counted g (i + 1)) (f (c g (i + 1))) 0)
+
+  -- d, how many they are
+  abbrev pub days : (g : ℕ) → ℕ
+  days g = overCounted g (λ t. 1)
+
+  -- R, S and V, the sums of raw, score and lots
+  abbrev pub sums : (g : ℕ) → Totals
+  sums g =
+      record {
+        raw = overCounted g (λ t. t .raw);
+        score = overCounted g (λ t. t .score);
+        lots = overCounted g (λ t. t .lots);
+      }
+
+-- a month of d counted days with the sums t is exempt when R ≤ 20,000 × d, or when 100 × S ≤ B × m × V
+abbrev pub isExempt : Rules → (B d : ℕ) → Totals → Bool
+isExempt P B d t = leb (t .raw) (P .edge₁ * d) || not (exceeds P B d t)
+
+abbrev pub exempt : Rules → (s : Terms) → Cells → (g : ℕ) → Bool
+exempt P s c g = isExempt P (s .benchmark g) (days s c g) (sums s c g)
