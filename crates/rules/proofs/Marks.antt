@@ -49,7 +49,7 @@ abbrev pub severeIn : Judged → (e i : ℕ) → Bool
 severeIn j e i = eqb (j .grouping i) e && isSevere (j .code i)
 
 abbrev pub free : Rules → Judged → (e i : ℕ) → Bool
-free P j e i = ltb (count i (left P j e)) (P .waivers)
+free P j e i = ltb (count i (left j e)) (P .waivers)
 
 module _ (P : Rules) (j : Judged) (i : ℕ) where
   marked-by : Given (eqb (j .code i) 4) (isSevere (j .code i)) (j .exempt i) (free P j (j .grouping i) i) (mark P j i)
@@ -72,7 +72,7 @@ module _ (P : Rules) (j : Judged) (i : ℕ) where
         go false = refl
 
     -- it is billed where it is severe, or left with no waiver free
-    pub mark-bill : bit (eqb (j .grouping i) e && isBilled (mark P j i)) ≡ bit (severeIn j e i) + (bit (left P j e i) - bit (free P j e i))
+    pub mark-bill : bit (eqb (j .grouping i) e && isBilled (mark P j i)) ≡ bit (severeIn j e i) + (bit (left j e i) - bit (free P j e i))
     mark-bill = go (eqb (j .grouping i) e) refl
       where
         go : (g : Bool) → eqb (j .grouping i) e ≡ g
@@ -87,10 +87,10 @@ pub record Same (j k : Judged) (i : ℕ) : Type 0 where
   pub grouping : j .grouping i ≡ k .grouping i
 
 module _ (P : Rules) (j k : Judged) (n : ℕ) (h : (i : ℕ) → i < n → Same j k i) where
-  pub left-same : (e i : ℕ) → i < n → left P j e i ≡ left P k e i
+  pub left-same : (e i : ℕ) → i < n → left j e i ≡ left k e i
   left-same e i l = rw (h i l .code, h i l .exempt, h i l .grouping)
 
   pub mark-same : (i : ℕ) → i < n → mark P j i ≡ mark P k i
   mark-same i l =
-      let e : (e : ℕ) → count i (left P j e) ≡ count i (left P k e) = λ e. sum-same i _ _ (λ m q. ap bit (left-same e m (lt-trans q l))) in
+      let e : (e : ℕ) → count i (left j e) ≡ count i (left k e) = λ e. sum-same i _ _ (λ m q. ap bit (left-same e m (lt-trans q l))) in
       rw (e (j .grouping i), h i l .code, h i l .exempt, h i l .grouping)

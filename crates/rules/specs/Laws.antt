@@ -27,6 +27,6 @@ pub record Laws (P : Rules) : Type 0 where
   -- and so does not raise the amount, in any grouping
   pub lighter-amount : (s : Terms) (c′ c : Cells) → LighterMonth s c′ c → (e : ℕ) → amount P (judged P s c′) e ≤ amount P (judged P s c) e
   -- violations = monthly + automatic + billed
-  pub adds-up : (j : Judged) (e : ℕ) → violations P j e ≡ marked P j e 3 + marked P j e 4 + billed P j e
+  pub adds-up : (j : Judged) (e : ℕ) → violations j e ≡ marked P j e 3 + marked P j e 4 + billed P j e
   -- and the amount is that of the billed
   pub dollars : (j : Judged) (e : ℕ) → amount P j e ≡ P .dollars * billed P j e

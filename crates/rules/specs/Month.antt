@@ -15,12 +15,12 @@ pub record Terms : Type 0 where
   pub benchmark : (g : ℕ) → ℕ
   pub grouping : (g : ℕ) → ℕ
 
--- a firm's totals, by group and day
+-- a firm's totals, by group and day: a cell is one firm, one product group, one day
 abbrev pub Cells : Type 0
 Cells = (g day : ℕ) → Totals
 
 module _ (s : Terms) (c : Cells) where
-  -- counted days are days in effect with raw above zero
+  -- The month: counted days are days in effect with raw above zero
   abbrev pub counted : (g day : ℕ) → Bool
   counted g day = s .effect day && ltb 0 (c g day .raw)
 
@@ -28,11 +28,11 @@ module _ (s : Terms) (c : Cells) where
   abbrev pub overCounted : (g : ℕ) → (Totals → ℕ) → ℕ
   overCounted g f = sum 31 (λ i. cond (counted g (i + 1)) (f (c g (i + 1))) 0)
 
-  -- d, how many they are
+  -- The month: d, how many they are
   abbrev pub days : (g : ℕ) → ℕ
   days g = overCounted g (λ t. 1)
 
-  -- R, S and V, the sums of raw, score and lots
+  -- The month: R, S and V are sums of raw, score and lots over the d counted days
   abbrev pub sums : (g : ℕ) → Totals
   sums g =
       record {
@@ -41,9 +41,10 @@ module _ (s : Terms) (c : Cells) where
         lots = overCounted g (λ t. t .lots);
       }
 
--- a month of d counted days with the sums t is exempt when R ≤ 20,000 × d, or when 100 × S ≤ B × m × V
+-- The month: exempt when R ≤ 20,000 × d, or when 100 × S ≤ B × m × V, of d counted days with the sums t
 abbrev pub isExempt : Rules → (B d : ℕ) → Totals → Bool
 isExempt P B d t = leb (t .raw) (P .edge₁ * d) || not (exceeds P B d t)
 
+-- a group is exempt
 abbrev pub exempt : Rules → (s : Terms) → Cells → (g : ℕ) → Bool
 exempt P s c g = isExempt P (s .benchmark g) (days s c g) (sums s c g)

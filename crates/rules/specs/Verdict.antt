@@ -21,7 +21,7 @@ pub record Rules : Type 0 where
   pub waivers : ℕ
   pub dollars : ℕ
 
--- version 9.6
+-- The day's verdict and The month: the numbers of version 9.6
 abbrev pub version96 : Rules
 version96 =
     record {
@@ -42,19 +42,20 @@ pub record Falling (P : Rules) : Type 0 where
   pub third : P .factor₃ ≤ P .factor₂
 
 module _ (P : Rules) where
-  -- a, b or c by the tier of a raw count over d days ("at or below: 3, 2; else 1")
+  -- The month: a, b or c by a raw count against the second and the third edge of d days ("at or below: 3, 2; else 1")
   abbrev pub byTier : (d raw a b c : ℕ) → ℕ
   byTier d raw a b c = choose ((leb raw (P .edge₂ * d), a) ∷ (leb raw (P .edge₃ * d), b) ∷ []) c
 
-  -- the factor m
+  -- The day's verdict: the factor m is 3 for raw 20,001 to 40,000, 2 for 40,001 to 60,000, 1 above
   abbrev pub factor : (d raw : ℕ) → ℕ
   factor d raw = byTier d raw (P .factor₁) (P .factor₂) (P .factor₃)
 
-  -- 100 × score > B × m × lots
+  -- The day's verdict: 100 × score > B × m × lots
   abbrev pub exceeds : (B d : ℕ) → Totals → Bool
   exceeds B d t = ltb (B * factor d (t .raw) * t .lots) (100 * t .score)
 
-  -- the code: 0 at or below the first edge; 5 (severe) and 4 (ordinary) for a fail; for a pass 3, 2 or 1 by tier
+  -- The day's verdict: 0 when raw ≤ 20,000; otherwise a fail when 100 × score > B × m × lots, which is 5 (severe) when also
+  -- 100 × score > 6 × B × m × lots, else 4 (ordinary); otherwise a pass, 3, 2 or 1 by tier
   unfoldable pub code : (B d : ℕ) → Totals → ℕ
   code B d t =
       choose
@@ -64,22 +65,23 @@ module _ (P : Rules) where
       ∷ [])
       (byTier d (t .raw) 3 2 1)
 
--- the codes of a violation, and of a severe one
+-- The month: a violation has code 4 or 5
 abbrev pub isViolation : ℕ → Bool
 isViolation code = eqb code 4 || eqb code 5
 
+-- The month: a severe one has code 5
 abbrev pub isSevere : ℕ → Bool
 isSevere code = eqb code 5
 
--- the greatest total of a cell (numbers 18, 22 and 24)
+-- Numbers of refusal, 18, 22 and 24: the greatest total of a cell
 abbrev pub limit : ℕ
 limit = 10000000000
 
--- no total of d days is above d times that
+-- no total of d days is above d times the limit
 abbrev pub fits : (d : ℕ) → Totals → Bool
 fits d t = all (leb (t .raw) (limit * d) ∷ leb (t .score) (limit * d) ∷ leb (t .lots) (limit * d) ∷ [])
 
--- the verdict on the totals of d days, at most a month's 31: number 24 where a total is above the limit or B out of range, else the code
+-- Numbers of refusal, 24: totals above the limit, or B out of range; else the verdict on the totals of d days, 31 at the most, is their code
 unfoldable pub verdict : (d : ℕ) → Totals → (B : ℕ) → ℕ
 verdict d t B =
     choose

@@ -1,0 +1,4 @@
+pub mod Laws
+pub mod Turns
+pub mod Good
+pub mod Found

@@ -1,0 +1,75 @@
+-- The search from place i has the same answer as from the first.
+-- Assumes nothing.
+use Prim.Native.Nat.{_-_}
+use mathlib.Core.Path.{_≡_, sym, _∙_}
+use native.Mathlib.Omega.{arith}
+use borrow.Author.Needs.{needs}
+use borrow.Author.Tests.{eq-eqb, ne-eqb}
+use Rattle.wire.specs.Tests.{seek}
+use Rattle.wire.proofs.Tests.{seek-hit, seek-next, seek-end}
+use Rattle.schedule.specs.Fields.{contract, listed}
+use Rattle.schedule.specs.Counted.{contractIs}
+use Rattle.schedule.proofs.counted.seek_contract.Statement.{statement}
+use Rattle.schedule.proofs.counted.seek_contract.Tie as tie
+
+abbrev Inv-loop : tie.InvT-loop
+Inv-loop body m n i₀ i = seek 0 (listed body) (contractIs body m) ≡ seek i (listed body) (contractIs body m)
+
+abbrev μ-loop : tie.MeasureT-loop
+μ-loop body m n i₀ i = n - i
+
+listed-in-requires : tie.Need-listed-in-requires Inv-loop μ-loop
+listed-in-requires c κs = search needs
+
+loop-holds : tie.Need-loop-holds Inv-loop μ-loop
+loop-holds c = search needs
+
+mul-u16-at : tie.Need-mul-u16-at Inv-loop μ-loop
+unfolding listed
+mul-u16-at c = omega arith
+
+add-u16-at : tie.Need-add-u16-at Inv-loop μ-loop
+unfolding listed
+add-u16-at c = omega arith
+
+u16-at-requires : tie.Need-u16-at-requires Inv-loop μ-loop
+u16-at-requires c κs = search needs
+
+returns : tie.Need-returns Inv-loop μ-loop
+unfolding contractIs contract
+returns c = sym
+    (c .before .before .before .loop .inv
+    ∙ seek-hit _ _ _ (rw (c .before .before .before .before .listed-in .ensures) at (c .before .before .loop-test .taken))
+    (eq-eqb _ _ (sym (c .before .u16-at .ensures) ∙ c .if1 .taken)))
+
+add-i : tie.Need-add-i Inv-loop μ-loop
+add-i c = search needs
+
+loop-less : tie.Need-loop-less Inv-loop μ-loop
+loop-less c = search needs
+
+loop-again : tie.Need-loop-again Inv-loop μ-loop
+unfolding contractIs contract
+loop-again c = c .before .before .before .loop .inv
+    ∙ seek-next _ _ _ (rw (c .before .before .before .before .listed-in .ensures) at (c .before .before .loop-test .taken))
+    (ne-eqb _ _ (λ e. c .if1 .left (c .before .u16-at .ensures ∙ e)))
+
+returns-2 : tie.Need-returns-2 Inv-loop μ-loop
+returns-2 c = sym (c .before .loop .inv ∙ seek-end _ _ _ (rw (c .before .before .listed-in .ensures) at (c .loop-test .left)))
+
+pub seek-contract-spec : {M : Type 1} → statement M
+seek-contract-spec =
+    tie.close
+    (tie.spec
+    Inv-loop
+    μ-loop
+    listed-in-requires
+    loop-holds
+    mul-u16-at
+    add-u16-at
+    u16-at-requires
+    returns
+    add-i
+    loop-less
+    loop-again
+    returns-2)

@@ -1,0 +1,120 @@
+-- The search for a bad contract has found none so far, and `last` is the contract before: so a return stops at the first bad one,
+-- and a walk to the end found none.
+-- Assumes nothing.
+use Prim.Native.Nat.{ℕ, _+_, _-_, _*_, _≤_, _<_}
+use mathlib.Core.Bool.{Bool, true, false, not}
+use mathlib.Core.List.{List}
+use mathlib.Core.Path.{_≡_, refl, sym, _∙_}
+use native.Mathlib.Numerals.{add-one}
+use native.Mathlib.Omega.{arith}
+use borrow.Author.Needs.{needs}
+use borrow.Author.Tests.{lt-leb, le-leb, lt-ltb, le-ltb}
+use Rattle.wire.specs.Bytes.{u16At}
+use Rattle.wire.specs.Tests.{seek}
+use Rattle.wire.proofs.Bools.{yes, no}
+use Rattle.wire.proofs.Tests.{seek-hit, seek-next, seek-end}
+use Rattle.schedule.specs.Calendar.{isMonth}
+use Rattle.schedule.specs.Fields.{contract, before, listed, contractBad, contractsOk}
+use Rattle.schedule.proofs.fields.contracts_ok.Statement.{statement}
+use Rattle.schedule.proofs.fields.contracts_ok.Tie as tie
+
+module _ (B : List ℕ) (i m : ℕ) (r : Bool) (e : m ≡ u16At B (12 + 2 * i)) (f : r ≡ isMonth m) where
+  off-range : not r ≡ true → contractBad B i ≡ true
+  unfolding contractBad contract
+  off-range g = rw (← e, no f g)
+
+  not-rising : not r ≡ false → m ≤ before B i → contractBad B i ≡ true
+  unfolding contractBad contract
+  not-rising g h = rw (← e, yes f g, le-leb _ _ h)
+
+  rising : not r ≡ false → before B i < m → contractBad B i ≡ false
+  unfolding contractBad contract
+  rising g h = rw (← e, yes f g, lt-leb _ _ h)
+
+module _ (B : List ℕ) (i : ℕ) (s : seek 0 (listed B) (contractBad B) ≡ seek i (listed B) (contractBad B)) where
+  stopped : i < listed B → contractBad B i ≡ true → false ≡ contractsOk B
+  unfolding contractsOk
+  stopped h e = rw (s, seek-hit _ _ _ h e, lt-ltb _ _ h)
+
+  passed : listed B ≤ i → true ≡ contractsOk B
+  unfolding contractsOk
+  passed h = rw (s, seek-end _ _ (contractBad B) h, le-ltb _ _ h)
+
+before-next : (B : List ℕ) (i : ℕ) → before B (i + 1) ≡ u16At B (12 + 2 * i)
+unfolding before contract
+before-next B i = rw (add-one i)
+
+abbrev Inv-loop : tie.InvT-loop
+Inv-loop body n i₀ last₀ i last =
+    (i ≤ n)
+    × (last ≡ before body i)
+    × (seek 0 (listed body) (contractBad body) ≡ seek i (listed body) (contractBad body))
+
+abbrev μ-loop : tie.MeasureT-loop
+μ-loop body n i₀ last₀ i last = n - i
+
+listed-in-requires : tie.Need-listed-in-requires Inv-loop μ-loop
+listed-in-requires c κs = search needs
+
+loop-holds : tie.Need-loop-holds Inv-loop μ-loop
+unfolding before
+loop-holds c = (search needs, search needs, refl)
+
+mul-u16-at : tie.Need-mul-u16-at Inv-loop μ-loop
+unfolding listed
+mul-u16-at c = omega arith
+
+add-u16-at : tie.Need-add-u16-at Inv-loop μ-loop
+unfolding listed
+add-u16-at c = omega arith
+
+u16-at-requires : tie.Need-u16-at-requires Inv-loop μ-loop
+u16-at-requires c κs = search needs
+
+is-month-requires : tie.Need-is-month-requires Inv-loop μ-loop
+is-month-requires c κs = search needs
+
+returns : tie.Need-returns Inv-loop μ-loop
+returns c = stopped _ _ (c .before .before .before .before .loop .inv .2) (rw (c .before .before .before .before .before .listed-in .ensures) at (c .before .before .before .loop-test .taken))
+    (off-range _ _ _ _ (c .before .before .u16-at .ensures) (c .before .is-month .ensures) (c .if1 .taken))
+
+returns-2 : tie.Need-returns-2 Inv-loop μ-loop
+returns-2 c = stopped _ _ (c .before .before .before .before .before .loop .inv .2) (rw (c .before .before .before .before .before .before .listed-in .ensures) at (c .before .before .before .before .loop-test .taken))
+    (not-rising _ _ _ _ (c .before .before .before .u16-at .ensures) (c .before .before .is-month .ensures) (c .before .if1 .left) (rw (c .before .before .before .before .before .loop .inv .1) at (c .if2 .taken)))
+
+add-i : tie.Need-add-i Inv-loop μ-loop
+add-i c = search needs
+
+loop-less : tie.Need-loop-less Inv-loop μ-loop
+loop-less c = search needs
+
+loop-again : tie.Need-loop-again Inv-loop μ-loop
+loop-again c = (
+  search needs,
+  c .before .before .before .u16-at .ensures ∙ sym (before-next _ _),
+  c .before .before .before .before .before .loop .inv .2
+      ∙ seek-next _ _ _ (rw (c .before .before .before .before .before .before .listed-in .ensures) at (c .before .before .before .before .loop-test .taken))
+      (rising _ _ _ _ (c .before .before .before .u16-at .ensures) (c .before .before .is-month .ensures) (c .before .if1 .left) (rw (c .before .before .before .before .before .loop .inv .1) at (c .if2 .left))),
+)
+
+returns-3 : tie.Need-returns-3 Inv-loop μ-loop
+returns-3 c = passed _ _ (c .before .loop .inv .2) (rw (c .before .before .listed-in .ensures) at (c .loop-test .left))
+
+pub contracts-ok-spec : {M : Type 1} → statement M
+contracts-ok-spec =
+    tie.close
+    (tie.spec
+    Inv-loop
+    μ-loop
+    listed-in-requires
+    loop-holds
+    mul-u16-at
+    add-u16-at
+    u16-at-requires
+    is-month-requires
+    returns
+    returns-2
+    add-i
+    loop-less
+    loop-again
+    returns-3)

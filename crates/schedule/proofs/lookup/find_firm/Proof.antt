@@ -1,0 +1,65 @@
+-- Firm i stands 7 i bytes after the first, and the search from there has the same answer as from the first.
+-- Assumes nothing.
+use Prim.Native.Nat.{_-_, _≤_}
+use mathlib.Core.Path.{_≡_, sym, _∙_}
+use borrow.Author.Needs.{needs}
+use borrow.Author.Tests.{lt-ltb, le-ltb}
+use Rattle.wire.specs.Tests.{seek}
+use Rattle.wire.proofs.Tests.{seek-hit, seek-next, seek-end}
+use Rattle.schedule.specs.Lookup.{firmIs, firmListed, firmFound}
+use Rattle.schedule.proofs.lookup.find_firm.Statement.{statement}
+use Rattle.schedule.proofs.lookup.find_firm.Tie as tie
+
+abbrev Inv-loop : tie.InvT-loop
+Inv-loop s start firms code n from i₀ i =
+    (i ≤ n) × (seek 0 n (firmIs s start code) ≡ seek i n (firmIs s start code))
+
+abbrev μ-loop : tie.MeasureT-loop
+μ-loop s start firms code n from i₀ i = n - i
+
+loop-holds : tie.Need-loop-holds Inv-loop μ-loop
+loop-holds c = search needs
+
+mul-firm-has : tie.Need-mul-firm-has Inv-loop μ-loop
+mul-firm-has c = search needs
+
+add-firm-has : tie.Need-add-firm-has Inv-loop μ-loop
+add-firm-has c = search needs
+
+firm-has-requires : tie.Need-firm-has-requires Inv-loop μ-loop
+firm-has-requires c κs = search needs
+
+returns : tie.Need-returns Inv-loop μ-loop
+unfolding firmFound firmListed firmIs
+returns c = let here = c .before .before .before .loop .inv .1 ∙ seek-hit _ _ _ (c .before .before .loop-test .taken) (sym (c .before .firm-has .ensures) ∙ c .if1 .taken) in
+    simp (here, lt-ltb _ _ (c .before .before .loop-test .taken))
+
+add-i : tie.Need-add-i Inv-loop μ-loop
+add-i c = search needs
+
+loop-less : tie.Need-loop-less Inv-loop μ-loop
+loop-less c = search needs
+
+loop-again : tie.Need-loop-again Inv-loop μ-loop
+unfolding firmIs
+loop-again c = (search needs, c .before .before .before .loop .inv .1 ∙ seek-next _ _ _ (c .before .before .loop-test .taken) (sym (c .before .firm-has .ensures) ∙ c .if1 .left))
+
+returns-2 : tie.Need-returns-2 Inv-loop μ-loop
+unfolding firmFound firmListed
+returns-2 c = simp (c .before .loop .inv .1 ∙ seek-end _ _ _ (c .loop-test .left), le-ltb _ _ (c .loop-test .left))
+
+pub find-firm-spec : {M : Type 1} → statement M
+find-firm-spec =
+    tie.close
+    (tie.spec
+    Inv-loop
+    μ-loop
+    loop-holds
+    mul-firm-has
+    add-firm-has
+    firm-has-requires
+    returns
+    add-i
+    loop-less
+    loop-again
+    returns-2)

@@ -1,0 +1,89 @@
+-- The walk stands at the start of group i, and the search from there has the same answer as from the first.
+-- Assumes nothing.
+use Prim.Native.Nat.{_+_, _-_, _*_, _≤_}
+use mathlib.Core.Path.{_≡_, sym, _∙_}
+use borrow.Author.Needs.{needs}
+use borrow.Author.Tests.{lt-ltb, le-ltb}
+use Rattle.wire.specs.Tests.{seek}
+use Rattle.wire.proofs.Tests.{seek-hit, seek-next, seek-end}
+use Rattle.schedule.specs.Lookup.{groupStart, groupIs, groupListed, groupFound}
+use Rattle.schedule.proofs.Laws.{group-next}
+use Rattle.schedule.proofs.lookup.find_group.Statement.{statement}
+use Rattle.schedule.proofs.lookup.find_group.Tie as tie
+
+abbrev Inv-loop : tie.InvT-loop
+Inv-loop schedule groups first second n i₀ at₀ i at =
+    (i ≤ n)
+    × (at ≤ 10 + 65535 * i)
+    × (at ≡ groupStart schedule i)
+    × (seek 0 n (groupIs schedule first second) ≡ seek i n (groupIs schedule first second))
+
+abbrev μ-loop : tie.MeasureT-loop
+μ-loop schedule groups first second n i₀ at₀ i at = n - i
+
+loop-holds : tie.Need-loop-holds Inv-loop μ-loop
+unfolding groupStart
+loop-holds c = search needs
+
+group-has-requires : tie.Need-group-has-requires Inv-loop μ-loop
+group-has-requires c κs = search needs
+
+group-at-requires : tie.Need-group-at-requires Inv-loop μ-loop
+group-at-requires c κs = search needs
+
+returns : tie.Need-returns Inv-loop μ-loop
+unfolding groupFound groupListed groupIs
+returns c = let l = c .before .before .before .before .loop in
+    let t = c .before .before .before .loop-test .taken in
+    let has = sym (c .before .before .group-has .ensures) ∙ c .before .if1 .taken in
+    let here = l .inv .3 ∙ seek-hit _ _ _ t (rw (l .inv .2) at has) in
+    simp (here, lt-ltb _ _ t, c .group-at .ensures, l .inv .2)
+
+u16-at-requires : tie.Need-u16-at-requires Inv-loop μ-loop
+u16-at-requires c κs = search needs
+
+cast-at : tie.Need-cast-at Inv-loop μ-loop
+cast-at c = search needs
+
+add-at : tie.Need-add-at Inv-loop μ-loop
+add-at c = search needs
+
+add-i : tie.Need-add-i Inv-loop μ-loop
+add-i c = search needs
+
+loop-less : tie.Need-loop-less Inv-loop μ-loop
+loop-less c = search needs
+
+loop-again : tie.Need-loop-again Inv-loop μ-loop
+unfolding groupIs
+loop-again c = let l = c .before .before .before .before .loop in
+    let t = c .before .before .before .loop-test .taken in
+    let hasnt = sym (c .before .before .group-has .ensures) ∙ c .before .if1 .left in (
+      search needs,
+      search needs,
+      simp (c .u16-at .ensures, group-next, l .inv .2),
+      l .inv .3 ∙ seek-next _ _ _ t (rw (l .inv .2) at hasnt),
+    )
+
+returns-2 : tie.Need-returns-2 Inv-loop μ-loop
+unfolding groupFound groupListed
+returns-2 c = let l = c .before .loop in
+    simp (l .inv .3 ∙ seek-end _ _ _ (c .loop-test .left), le-ltb _ _ (c .loop-test .left))
+
+pub find-group-spec : {M : Type 1} → statement M
+find-group-spec =
+    tie.close
+    (tie.spec
+    Inv-loop
+    μ-loop
+    loop-holds
+    group-has-requires
+    group-at-requires
+    returns
+    u16-at-requires
+    cast-at
+    add-at
+    add-i
+    loop-less
+    loop-again
+    returns-2)

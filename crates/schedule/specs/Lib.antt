@@ -1,0 +1,6 @@
+pub mod Calendar
+pub mod Fields
+pub mod Lookup
+pub mod Counted
+pub mod Check
+pub mod Good

@@ -1,0 +1,55 @@
+// Months and their days.
+ghost use mathlib.Core.Path.{_≡_};
+ghost use Rattle.schedule.specs.Calendar.{isMonth, isLeapFebruary, daysIn, inEffect};
+ghost use Rattle.wire.specs.Tests.{within};
+
+// A number from lo to hi.
+pub(crate) fn within(lo: u32, hi: u32, x: u32) -> bool
+    ensures { λ r. ⌜ r ≡ within lo hi x ⌝ }
+{
+    if x < lo {
+        return false;
+    }
+    x <= hi
+}
+
+pub(crate) fn is_month(m: u16) -> bool
+    ensures { λ r. ⌜ r ≡ isMonth m ⌝ }
+{
+    within(24000, 25199, m as u32)
+}
+
+const MONTH_DAYS: [u8; 12] = [31, 28, 31, 30, 31, 30, 31, 31, 30, 31, 30, 31];
+
+fn is_leap_february(m: u16) -> bool
+    ensures { λ r. ⌜ r ≡ isLeapFebruary m ⌝ }
+{
+    if m % 12 != 1 {
+        return false;
+    }
+    m / 12 % 4 == 0
+}
+
+// The days of a month.
+pub fn days_in(month: u16) -> u8
+    ensures { λ r. ⌜ r ≡ daysIn month ⌝ }
+{
+    if is_leap_february(month) {
+        return 29;
+    }
+    let i = (month % 12) as usize;
+    MONTH_DAYS[i]
+}
+
+// Whether a day, from 1, of the month is in effect, where the bits of `closed` are set for the days that are not.
+pub fn in_effect(month: u16, closed: u32, day: u8) -> bool
+    ensures { λ r. ⌜ r ≡ inEffect month closed day ⌝ }
+{
+    if day < 1 {
+        return false;
+    }
+    if days_in(month) < day {
+        return false;
+    }
+    (closed >> (day - 1)) % 2 == 0
+}
