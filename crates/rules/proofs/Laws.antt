@@ -1,9 +1,9 @@
 -- The laws of the rules, each from the file that proves it, and version 9.6's factors, which fall.
 -- Assumes nothing.
 use native.Mathlib.Omega.{arith}
+use Rattle.wire.proofs.Implies.{follows}
 use Rattle.rules.specs.Verdict.{Rules, Falling, version96}
 use Rattle.rules.specs.Laws.{Laws}
-use Rattle.wire.proofs.Implies.{follows}
 use Rattle.rules.proofs.Verdict.{fails, severe, violation-falls, severe-falls}
 use Rattle.rules.proofs.Bills.{adds-up, dollars}
 use Rattle.rules.proofs.Lighter.{eased, exempt-stays, amount-lighter}

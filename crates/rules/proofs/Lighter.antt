@@ -2,8 +2,8 @@
 -- So no place gets worse, and no amount rises.
 -- Assumes nothing.
 use Prim.Native.Nat.{ℕ, _+_, _≤_, _<_}
-use mathlib.Core.Path.{_≡_, refl, sym}
 use mathlib.Core.Bool.{Bool, true, false, cond, not, _&&_, _||_}
+use mathlib.Core.Path.{_≡_, refl, sym}
 use native.Mathlib.Nat.{le-refl, mul-le-mul-left}
 use native.Mathlib.Omega.{arith}
 use lib.Dec.{ltb, eqb}
@@ -26,15 +26,15 @@ eased h = record { edges = λ e. leb-⇒ (h .raw) (le-refl _); score = h .score;
 
 -- where the same days count, a sum over them rises with what is summed
 over-le : (s : Terms) (g : ℕ) (c₁ c₂ : Cells) → ((k : ℕ) → counted s c₁ g k ≡ counted s c₂ g k)
-    → (f : Totals → ℕ) → ((k : ℕ) → s .effect k ≡ true → f (c₁ g k) ≤ f (c₂ g k)) → overCounted s c₁ g f ≤ overCounted s c₂ g f
+    → (f : Totals → ℕ) → ((k : ℕ) → s .inEffect k ≡ true → f (c₁ g k) ≤ f (c₂ g k)) → overCounted s c₁ g f ≤ overCounted s c₂ g f
 over-le s g c₁ c₂ same f h =
-    sum-le 31 _ _ (λ i l. rw (same (i + 1)) (cond-where (counted s c₂ g (i + 1)) (λ q. h (i + 1) (and-left (s .effect (i + 1)) _ q))))
+    sum-le 31 _ _ (λ i l. rw (same (i + 1)) (cond-where (counted s c₂ g (i + 1)) (λ q. h (i + 1) (and-left (s .inEffect (i + 1)) _ q))))
 
 module _ (s : Terms) (c′ c : Cells) (h : LighterMonth s c′ c) (g : ℕ) (hg : g < s .groups) where
   pub same-days : (k : ℕ) → counted s c′ g k ≡ counted s c g k
-  same-days k = go (s .effect k) (ltb 0 (c g k .raw)) refl refl
+  same-days k = go (s .inEffect k) (ltb 0 (c g k .raw)) refl refl
     where
-      go : (x y : Bool) → s .effect k ≡ x → ltb 0 (c g k .raw) ≡ y → (x && ltb 0 (c′ g k .raw)) ≡ (x && y)
+      go : (x y : Bool) → s .inEffect k ≡ x → ltb 0 (c g k .raw) ≡ y → (x && ltb 0 (c′ g k .raw)) ≡ (x && y)
       go false y p q = refl
       go true true p q = lt-ltb 0 _ (h .kept g k hg p (ltb-true 0 _ q))
       go true false p q = le-ltb 0 (c′ g k .raw) (omega (arith, ltb-false 0 (c g k .raw) q, h .lighter g k hg p .raw))
@@ -85,7 +85,7 @@ module _ (P : Rules) (F : Falling P) (s : Terms) (c′ c : Cells) (h : LighterMo
   pub amount-lighter : (e : ℕ) → amount P (judged P s c′) e ≤ amount P (judged P s c) e
   amount-lighter e =
       amount-falls P e (judged P s c′) (judged P s c)
-      (λ i. placed (eqb (s .grouping (groupOf i)) e) (ltb (groupOf i) (s .groups) && s .effect (dayOf i)) _ _ _ _
+      (λ i. placed (eqb (s .grouping (groupOf i)) e) (ltb (groupOf i) (s .groups) && s .inEffect (dayOf i)) _ _ _ _
       (λ q. let hg = ltb-true _ _ (and-left (ltb (groupOf i) (s .groups)) _ q) in
       let l = h .lighter (groupOf i) (dayOf i) hg (and-right (ltb (groupOf i) (s .groups)) _ q) in
       record {

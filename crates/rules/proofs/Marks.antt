@@ -2,15 +2,15 @@
 -- own grouping is e; and a mark goes by the places up to its own, so judgements that agree there agree on it.
 -- Assumes nothing.
 use Prim.Native.Nat.{ℕ, _+_, _-_, _<_}
-use mathlib.Core.Path.{_≡_, refl, ap}
 use mathlib.Core.Bool.{Bool, true, false, not, _&&_, _||_}
 use mathlib.Core.List.{[], _∷_}
+use mathlib.Core.Path.{_≡_, refl, ap}
 use native.Mathlib.Nat.{lt-trans}
 use native.Mathlib.Omega.{arith}
 use lib.Dec.{ltb, eqb}
 use borrow.Author.Tests.{eqb-true}
+use Rattle.wire.specs.Choose.{choose}
 use Rattle.wire.specs.Sums.{bit, count}
-use Rattle.wire.specs.Tests.{choose}
 use Rattle.wire.proofs.Sums.{sum-same}
 use Rattle.rules.specs.Verdict.{Rules, isViolation, isSevere}
 use Rattle.rules.specs.Marks.{Judged, left, isBilled, mark}

@@ -2,16 +2,16 @@
 -- No code gets worse where totals are eased: the factor does not fall, so the bound rises while the score falls.
 -- Assumes nothing.
 use Prim.Native.Nat.{ℕ, _*_, _≤_, suc-le-suc}
-use mathlib.Core.Path.{_≡_, refl, ap}
 use mathlib.Core.Bool.{Bool, true, false, not, _&&_, _||_}
 use mathlib.Core.List.{[], _∷_}
+use mathlib.Core.Path.{_≡_, refl, ap}
 use native.Mathlib.Nat.{le-refl, le-trans, mul-le-mul, mul-le-mul-left}
 use lib.Dec.{leb, ltb, lit≤}
 use borrow.Author.Tests.{leb-true, le-ltb}
-use Rattle.wire.specs.Tests.{choose, within}
+use Rattle.wire.specs.Choose.{choose, within}
 use Rattle.wire.proofs.Bools.{cond-le, ltb-leb}
+use Rattle.wire.proofs.Choose.{chosen, next, done, each}
 use Rattle.wire.proofs.Implies.{_⇒_, not-⇒, and-⇒, leb-⇒, cond-rises}
-use Rattle.wire.proofs.Tests.{chosen, next, done, each}
 use Rattle.rules.specs.Verdict.{Rules, version96, Falling, factor, exceeds, code, isViolation, isSevere, limit, fits, verdict}
 use Rattle.rules.specs.Month.{isExempt}
 use Rattle.rules.specs.declared.Totals.{Totals}

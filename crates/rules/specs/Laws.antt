@@ -1,8 +1,8 @@
 -- What follows from the rules, whatever the constants, if their factors do not grow with the tier. Proved in proofs/Laws.antt.
 -- Assumes nothing.
 use Prim.Native.Nat.{ℕ, _+_, _*_, _≤_, _<_}
-use mathlib.Core.Path.{_≡_}
 use mathlib.Core.Bool.{true, _&&_}
+use mathlib.Core.Path.{_≡_}
 use lib.Dec.{ltb}
 use Rattle.rules.specs.Verdict.{Rules, exceeds, code, isViolation, isSevere}
 use Rattle.rules.specs.Month.{Terms, Cells, exempt}

@@ -1,8 +1,8 @@
 -- Lighter traffic: fewer messages, more lots (the premise of demand 3).
 -- Assumes nothing.
 use Prim.Native.Nat.{ℕ, _≤_, _<_}
-use mathlib.Core.Path.{_≡_}
 use mathlib.Core.Bool.{true}
+use mathlib.Core.Path.{_≡_}
 use Rattle.rules.specs.Month.{Terms, Cells}
 use Rattle.rules.specs.declared.Totals.{Totals}
 
@@ -14,5 +14,5 @@ pub record Lighter (t′ t : Totals) : Type 0 where
 
 -- so on each day in effect and in each group, and no raw count above zero becomes zero
 pub record LighterMonth (s : Terms) (c′ c : Cells) : Type 0 where
-  pub lighter : (g day : ℕ) → g < s .groups → s .effect day ≡ true → Lighter (c′ g day) (c g day)
-  pub kept : (g day : ℕ) → g < s .groups → s .effect day ≡ true → 0 < c g day .raw → 0 < c′ g day .raw
+  pub lighter : (g day : ℕ) → g < s .groups → s .inEffect day ≡ true → Lighter (c′ g day) (c g day)
+  pub kept : (g day : ℕ) → g < s .groups → s .inEffect day ≡ true → 0 < c g day .raw → 0 < c′ g day .raw

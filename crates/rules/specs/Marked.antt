@@ -1,11 +1,11 @@
 -- The eleven marked days and the month (document 01, "Eleven marked days, a month and one whole run"), each against B = 1,000.
 -- Assumes nothing.
 use Prim.Native.Nat.{ℕ}
-use mathlib.Core.Path.{_≡_, refl}
 use mathlib.Core.Bool.{Bool, true}
 use mathlib.Core.List.{List, [], _∷_, map}
+use mathlib.Core.Path.{_≡_, refl}
 use lib.Dec.{eqb}
-use Rattle.wire.specs.Tests.{choose, all}
+use Rattle.wire.specs.Choose.{choose, all}
 use Rattle.rules.specs.Verdict.{version96, code, verdict}
 use Rattle.rules.specs.Month.{isExempt}
 

@@ -1,13 +1,13 @@
 -- The readings that mislead (document 01, "Readings that mislead"): computed examples that each of them gets wrong. (Dividing first: the
 -- ninth marked day of Marked.antt.)
 -- Assumes nothing.
-use mathlib.Core.Path.{_≡_, refl}
 use mathlib.Core.Bool.{false, cond}
 use mathlib.Core.List.{[], _∷_}
+use mathlib.Core.Path.{_≡_, refl}
 use lib.Dec.{ltb, eqb}
+use Rattle.wire.specs.Choose.{choose, within}
 use Rattle.wire.specs.Lists.{joined, table}
 use Rattle.wire.specs.Sums.{sum}
-use Rattle.wire.specs.Tests.{choose, within}
 use Rattle.rules.specs.Verdict.{version96, code}
 use Rattle.rules.specs.Month.{Terms, Cells, exempt}
 use Rattle.rules.specs.Marks.{Judged, mark}
@@ -19,7 +19,7 @@ ordinary-day = refl
 
 -- averaging over all days in effect, or adding lots of days without messages: days 1 and 2 are in effect; on day 2 there are lots and no messages
 abbrev terms : Terms
-terms = record { groups = 1; effect = within 1 2; benchmark = λ g. 1000; grouping = λ g. 1 }
+terms = record { groups = 1; inEffect = within 1 2; benchmark = λ g. 1000; grouping = λ g. 1 }
 
 abbrev cells : Cells
 cells g day = cond (eqb day 1) (record { raw = 20001; score = 3; lots = 0 }) (record { raw = 0; score = 0; lots = 1000 })

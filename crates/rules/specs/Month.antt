@@ -11,7 +11,7 @@ use Rattle.rules.specs.declared.Totals.{Totals}
 -- grouping, the groups by their place (from 0)
 pub record Terms : Type 0 where
   pub groups : ℕ
-  pub effect : (day : ℕ) → Bool
+  pub inEffect : (day : ℕ) → Bool
   pub benchmark : (g : ℕ) → ℕ
   pub grouping : (g : ℕ) → ℕ
 
@@ -22,7 +22,7 @@ Cells = (g day : ℕ) → Totals
 module _ (s : Terms) (c : Cells) where
   -- The month: counted days are days in effect with raw above zero
   abbrev pub counted : (g day : ℕ) → Bool
-  counted g day = s .effect day && ltb 0 (c g day .raw)
+  counted g day = s .inEffect day && ltb 0 (c g day .raw)
 
   -- a sum over the counted days of a group
   abbrev pub overCounted : (g : ℕ) → (Totals → ℕ) → ℕ

@@ -1,11 +1,12 @@
 -- The Program's constants, and the codes of totals (document 01, "The day's verdict"; the Program, sections 2 to 5 and 8).
--- The totals are those of d days: a day's own for d = 1, a month's sums for its d counted days (document 01, "The month").
+-- `Totals` is the struct of src/lib.rt: raw count, score and lots. They are those of d days: a day's own for d = 1, a month's sums for its d
+-- counted days (document 01, "The month").
 -- Assumes nothing.
 use Prim.Native.Nat.{ℕ, _*_, _≤_}
 use mathlib.Core.Bool.{Bool, not, _&&_, _||_}
-use mathlib.Core.List.{List, [], _∷_}
+use mathlib.Core.List.{[], _∷_}
 use lib.Dec.{leb, ltb, eqb}
-use Rattle.wire.specs.Tests.{choose, all, within}
+use Rattle.wire.specs.Choose.{choose, all, within}
 use Rattle.rules.specs.declared.Totals.{Totals}
 
 -- the Program's constants: the raw edges of the tiers and the tiers' factors, from low to high; the severe multiple; the automatic

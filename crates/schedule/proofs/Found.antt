@@ -6,8 +6,8 @@ use mathlib.Core.List.{List}
 use mathlib.Core.Path.{_≡_, sym}
 use native.Mathlib.Omega.{arith}
 use borrow.Author.Tests.{ltb-true}
-use Rattle.wire.specs.Tests.{seek, some}
-use Rattle.wire.proofs.Tests.{each, sought, none-at}
+use Rattle.wire.specs.Choose.{seek, some}
+use Rattle.wire.proofs.Choose.{each, sought, none-at}
 use Rattle.schedule.specs.Fields.{groupOk, groupFields}
 use Rattle.schedule.specs.Lookup.{bodyAt, groupStart, groupIs, groupListed, firmIs, firmListed, found, unlisted, GroupPlace, groupPlace, groupFound, firmFound}
 use Rattle.schedule.specs.Check.{good, checkOf}

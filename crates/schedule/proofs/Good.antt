@@ -11,9 +11,9 @@ use lib.Seq.{getD-take, getD-drop}
 use borrow.Author.Count.{below-more}
 use borrow.Author.Tests.{leb-false, leb-true, ltb-false, eqb-true, eqb-false, not-false, not-true}
 use Rattle.wire.specs.Bytes.{u16At, u32At}
-use Rattle.wire.specs.Tests.{some}
+use Rattle.wire.specs.Choose.{some}
 use Rattle.wire.proofs.Bools.{and-left, and-right}
-use Rattle.wire.proofs.Tests.{here, next, done, chosen, passed, each, none-at}
+use Rattle.wire.proofs.Choose.{here, next, done, chosen, passed, each, none-at}
 use Rattle.schedule.specs.Calendar.{isMonth, daysIn}
 use Rattle.schedule.specs.Fields.{headOk, groupOk, firmOk}
 use Rattle.schedule.specs.Lookup.{lengthAt, kindAt, bodyAt, groupStart, firmStart, groupIs, firmHas, firmIs, groupListed, firmListed}

@@ -11,9 +11,9 @@ use lib.ListN.{length, getD, take, drop, drop-of-length-le, length-drop}
 use lib.Seq.{take-nil, take-all}
 use borrow.Author.Tests.{eq-eqb, ne-eqb, leb-true, eqb-true, eqb-false}
 use Rattle.wire.specs.Bytes.{u16At}
-use Rattle.wire.specs.Tests.{within}
-use Rattle.wire.proofs.Bools.{and-left, and-right, cond-le, range}
-use Rattle.wire.proofs.Tests.{Chosen, here, next, done, chosen}
+use Rattle.wire.specs.Choose.{within}
+use Rattle.wire.proofs.Bools.{and-left, and-right, cond-true, cond-false, cond-le, range}
+use Rattle.wire.proofs.Choose.{Chosen, here, next, done, chosen}
 use Rattle.schedule.specs.Calendar.{monthDays, isLeapFebruary, daysIn}
 use Rattle.schedule.specs.Fields.{fields, refusal, readIf}
 use Rattle.schedule.specs.Lookup.{found, unlisted, bodyAt, groupStart}
@@ -55,34 +55,18 @@ kindOf kind = by (eqb kind 1) (eqb kind 2) (eqb kind 3) refl refl refl
 -- a body that reads as fields is in order, and one that reads as a refusal is not
 module _ {A : Type 0} (ok : Bool) (a : A) where
   pub read-good : {f : A} → fields f ≡ readIf ok a → true ≡ ok
-  read-good {f} e = by ok e
-    where
-      by : (b : Bool) → fields f ≡ readIf b a → true ≡ b
-      by true q = refl
-      by false q = let z : _≡_ {A = ℕ} 0 1 = cc in absurd (omega arith)
+  read-good e = cond-true ok _ _ (sym e) (λ q. let z : _≡_ {A = ℕ} 0 1 = cc in omega arith)
 
   pub read-bad : {n : ℕ} → refusal n ≡ readIf ok a → false ≡ ok
-  read-bad {n} e = by ok e
-    where
-      by : (b : Bool) → refusal n ≡ readIf b a → false ≡ b
-      by true q = let z : _≡_ {A = ℕ} 0 1 = cc in absurd (omega arith)
-      by false q = refl
+  read-bad e = cond-false ok _ _ (sym e) (λ q. let z : _≡_ {A = ℕ} 0 1 = cc in omega arith)
 
 -- a code that was found is listed, and one that was not isn't
 module _ {A : Type 0} (b : Bool) (a : A) where
   pub found-listed : {x : A} → found x ≡ cond b (found a) unlisted → true ≡ b
-  found-listed {x} e = by b e
-    where
-      by : (t : Bool) → found x ≡ cond t (found a) unlisted → true ≡ t
-      by true q = refl
-      by false q = let z : _≡_ {A = ℕ} 0 1 = cc in absurd (omega arith)
+  found-listed e = cond-true b _ _ (sym e) (λ q. let z : _≡_ {A = ℕ} 0 1 = cc in omega arith)
 
   pub unlisted-listed : unlisted ≡ cond b (found a) unlisted → false ≡ b
-  unlisted-listed e = by b e
-    where
-      by : (t : Bool) → unlisted ≡ cond t (found a) unlisted → false ≡ t
-      by true q = let z : _≡_ {A = ℕ} 0 1 = cc in absurd (omega arith)
-      by false q = refl
+  unlisted-listed e = cond-false b _ _ (sym e) (λ q. let z : _≡_ {A = ℕ} 0 1 = cc in omega arith)
 
 -- a group's start, in the code's form of the next index
 pub group-next : (S : List ℕ) (i : ℕ) → groupStart S (i + 1) ≡ groupStart S i + u16At S (groupStart S i)

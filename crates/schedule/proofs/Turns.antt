@@ -7,7 +7,7 @@ use mathlib.Core.Path.{_≡_, refl, sym, _∙_}
 use native.Mathlib.Omega.{arith}
 use lib.ListN.{length}
 use borrow.Author.Tests.{le-leb, lt-leb, eq-eqb, ne-eqb, eqb-true, eqb-false, ltb-false, not-false}
-use Rattle.wire.proofs.Tests.{here, next, done, chosen, passed}
+use Rattle.wire.proofs.Choose.{here, next, done, chosen, passed}
 use Rattle.schedule.specs.Lookup.{lengthAt, kindAt}
 use Rattle.schedule.specs.Check.{byKind, isDue, lengthOk, isFull, cause, after, refused, ending, scan}
 use Rattle.schedule.specs.declared.scan.Cursor.{Cursor}

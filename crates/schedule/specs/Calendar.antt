@@ -5,7 +5,7 @@ use mathlib.Core.Bool.{Bool, cond, _&&_}
 use mathlib.Core.List.{List, [], _∷_}
 use lib.Dec.{eqb}
 use lib.ListN.{getD}
-use Rattle.wire.specs.Tests.{within}
+use Rattle.wire.specs.Choose.{within}
 
 -- Records: a month number is year × 12 + month − 1, from 24,000 to 25,199 (2000 to 2099)
 abbrev pub isMonth : ℕ → Bool

@@ -6,7 +6,7 @@ use mathlib.Core.List.{List, [], _∷_}
 use lib.Dec.{leb, ltb, eqb}
 use lib.ListN.{length, getD}
 use Rattle.wire.specs.Bytes.{u16At, u32At}
-use Rattle.wire.specs.Tests.{choose, within}
+use Rattle.wire.specs.Choose.{choose, within}
 use Rattle.schedule.specs.Fields.{headOk, groupOk, firmOk}
 use Rattle.schedule.specs.Lookup.{lengthAt, kindAt, bodyAt, groupListed, firmListed}
 use Rattle.schedule.specs.declared.scan.Cursor.{Cursor}

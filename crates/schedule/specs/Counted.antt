@@ -7,8 +7,8 @@ use mathlib.Core.Path.{_≡_}
 use lib.Dec.{leb, eqb}
 use lib.ListN.{getD}
 use Rattle.wire.specs.Bytes.{u16At}
+use Rattle.wire.specs.Choose.{choose, seek}
 use Rattle.wire.specs.Sums.{count}
-use Rattle.wire.specs.Tests.{choose, seek}
 use Rattle.schedule.specs.Calendar.{bitAt}
 use Rattle.schedule.specs.Fields.{contract, listed}
 use Rattle.schedule.specs.declared.counted.Status.{Status}

@@ -7,7 +7,7 @@ use mathlib.Core.List.{List, [], _∷_}
 use lib.Dec.{leb, eqb}
 use lib.ListN.{length, getD}
 use Rattle.wire.specs.Bytes.{u16At, u32At}
-use Rattle.wire.specs.Tests.{all, within, some}
+use Rattle.wire.specs.Choose.{all, within, some}
 use Rattle.schedule.specs.Calendar.{isMonth, daysIn}
 use Rattle.schedule.specs.declared.fields.Head.{Head}
 use Rattle.schedule.specs.declared.fields.HeadRead.{HeadRead}

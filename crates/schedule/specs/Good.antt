@@ -6,7 +6,7 @@ use mathlib.Core.List.{List}
 use mathlib.Core.Path.{_≡_}
 use lib.ListN.{length}
 use Rattle.wire.specs.Bytes.{u16At, u32At}
-use Rattle.wire.specs.Tests.{within}
+use Rattle.wire.specs.Choose.{within}
 use Rattle.schedule.specs.Calendar.{isMonth, daysIn}
 use Rattle.schedule.specs.Fields.{isCode, groupOk, firmOk}
 use Rattle.schedule.specs.Lookup.{bodyAt, groupStart, firmStart, groupIs, firmIs, found, unlisted, GroupPlace, groupPlace, groupFound, firmFound}

@@ -6,7 +6,7 @@ use mathlib.Core.List.{List, [], _∷_}
 use lib.Dec.{eqb}
 use lib.ListN.{length, getD, take, drop}
 use Rattle.wire.specs.Bytes.{u16At}
-use Rattle.wire.specs.Tests.{all, seek, some}
+use Rattle.wire.specs.Choose.{all, seek, some}
 use Rattle.schedule.specs.Fields.{groupFields}
 use Rattle.schedule.specs.declared.fields.Group.{Group}
 use Rattle.schedule.specs.declared.lookup.FoundGroup.{FoundGroup}

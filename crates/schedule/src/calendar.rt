@@ -1,7 +1,7 @@
 // Months and their days.
 ghost use mathlib.Core.Path.{_≡_};
 ghost use Rattle.schedule.specs.Calendar.{isMonth, isLeapFebruary, daysIn, inEffect};
-ghost use Rattle.wire.specs.Tests.{within};
+ghost use Rattle.wire.specs.Choose.{within};
 
 // A number from lo to hi.
 pub(crate) fn within(lo: u32, hi: u32, x: u32) -> bool

@@ -4,12 +4,11 @@ use crate::lookup::body_at;
 use wire::byte_at;
 use wire::u16_at;
 ghost use mathlib.Core.Path.{_≡_};
-ghost use Prim.Native.Nat.{_+_, _*_, _≤_, _<_};
-ghost use lib.ListN.{length};
+ghost use Prim.Native.Nat.{_≤_, _<_};
 ghost use mathlib.Core.Bool.{_&&_};
 ghost use lib.Dec.{leb};
 ghost use Rattle.wire.specs.Sums.{bit};
-ghost use Rattle.wire.specs.Tests.{seek};
+ghost use Rattle.wire.specs.Choose.{seek};
 ghost use Rattle.schedule.specs.Fields.{listed};
 ghost use Rattle.schedule.specs.Lookup.{bodyAt};
 ghost use Rattle.schedule.specs.Counted.{inMask, contractIs, PassedIs, isCounted, statusMeaning, statusOf};
@@ -21,7 +20,8 @@ pub enum Status {
     Counted,
 }
 
-// Of the contracts before a place: how many are in the front mask, and how many stand after the counted ones of those and are in the extra mask.
+// Of the contracts before a place: how many are in the front mask, and how many stand after the first k of those and are in the extra
+// mask.
 struct Passed {
     front: usize,
     extra: usize,

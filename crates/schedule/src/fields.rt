@@ -7,7 +7,8 @@ use wire::u16_at;
 use wire::u32_at;
 ghost use mathlib.Core.Path.{_≡_};
 ghost use lib.ListN.{getD};
-ghost use Rattle.schedule.specs.Fields.{isCode, headOk, headRead, headMeaning, listed, contractsOk, groupOk, groupFields, groupRead, groupMeaning, firmOk, firmRead, firmMeaning};
+ghost use Rattle.schedule.specs.Fields.{isCode, headOk, headRead, headMeaning, firmOk, firmRead, firmMeaning};
+ghost use Rattle.schedule.specs.Fields.{listed, contractsOk, groupOk, groupFields, groupRead, groupMeaning};
 
 // A head's fields: the month's number, and the days that are not in effect.
 pub struct Head {
@@ -20,8 +21,8 @@ pub(crate) enum HeadRead {
     Bad,
 }
 
-// A group's fields: the two letters of its code, its exchange grouping, k (how many contracts of the front mask are counted), its benchmark,
-// the two masks, and how many contracts it lists.
+// A group's fields: the two letters of its code, its exchange grouping, k (how many contracts of the front mask are counted), its
+// benchmark, the two masks, and how many contracts it lists.
 pub struct Group {
     pub first: u8,
     pub second: u8,

@@ -1,12 +1,12 @@
 -- Laws of tests that are joined, negated, or branched on.
 -- Assumes nothing.
 use Prim.Native.Nat.{ℕ, _≤_}
-use mathlib.Core.Path.{_≡_, refl, sym, _∙_}
 use mathlib.Core.Bool.{Bool, true, false, cond, not, _&&_, false≢true}
+use mathlib.Core.Path.{_≡_, refl, sym, _∙_}
 use native.Mathlib.Nat.{le-refl}
-use borrow.Author.Tests.{not-true, not-false, leb-true, leb-false, le-leb, le-ltb, lt-ltb}
 use lib.Dec.{leb, ltb}
-use Rattle.wire.specs.Tests.{within}
+use borrow.Author.Tests.{not-true, not-false, leb-true, leb-false, le-leb, le-ltb, lt-ltb}
+use Rattle.wire.specs.Choose.{within}
 
 pub and-left : (a b : Bool) → (a && b) ≡ true → a ≡ true
 and-left true b e = refl

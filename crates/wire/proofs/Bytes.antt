@@ -1,11 +1,11 @@
 -- Laws of numbers in bytes: past the end stand zeros, and a number that was written is read again.
 -- Assumes nothing.
 use Prim.Native.Nat.{ℕ, _+_, _*_, _/_, _%_, _≤_, _<_}
-use native.Mathlib.Omega.{arith}
-use native.Mathlib.Nat.{div-div-eq-div-mul}
+use mathlib.Core.List.{List, _++_}
 use mathlib.Core.Path.{_≡_, _∙_}
-use mathlib.Core.List.{List, [], _∷_, _++_, append-assoc}
-use lib.ListN.{length, getD, List·getD-eq-default}
+use native.Mathlib.Nat.{div-div-eq-div-mul}
+use native.Mathlib.Omega.{arith}
+use lib.ListN.{length, List·getD-eq-default}
 use lib.Seq.{getD-append-add}
 use Rattle.wire.specs.Bytes.{u16At, u32At, u16Bytes, u32Bytes}
 

@@ -1,6 +1,6 @@
 pub mod Bools
 pub mod Implies
-pub mod Tests
+pub mod Choose
 pub mod Sums
 pub mod Lists
 pub mod Bytes

@@ -1,4 +1,4 @@
-pub mod Tests
+pub mod Choose
 pub mod Sums
 pub mod Lists
 pub mod Bytes

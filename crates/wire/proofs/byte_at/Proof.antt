@@ -1,8 +1,8 @@
 -- Inside the slice the byte is the element; past the end `getD` gives its default, 0.
 -- Assumes nothing.
-use denote.Ref.{now}
 use mathlib.Core.Path.{sym}
 use lib.ListN.{List·getD-eq-default}
+use denote.Ref.{now}
 use borrow.Author.Needs.{needs}
 use Rattle.wire.proofs.byte_at.Statement.{statement}
 use Rattle.wire.proofs.byte_at.Tie as tie

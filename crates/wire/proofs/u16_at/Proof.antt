@@ -1,9 +1,9 @@
 -- Inside the slice the sum is the definition's, byte by byte; past the end both bytes are zeros.
 -- Assumes nothing.
 use mathlib.Core.Path.{sym}
-use Rattle.wire.proofs.Bytes.{u16-past}
-use Rattle.wire.specs.Bytes.{u16At}
 use borrow.Author.Needs.{needs}
+use Rattle.wire.specs.Bytes.{u16At}
+use Rattle.wire.proofs.Bytes.{u16-past}
 use Rattle.wire.proofs.u16_at.Statement.{statement}
 use Rattle.wire.proofs.u16_at.Tie as tie
 

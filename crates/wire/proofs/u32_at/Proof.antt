@@ -1,11 +1,11 @@
 -- Two halves of two bytes. Where only the lower half has bytes the upper one is 0, and past the end both are.
 -- Assumes nothing.
-use denote.Ref.{now}
 use mathlib.Core.Path.{sym}
 use native.Mathlib.Omega.{arith}
-use Rattle.wire.proofs.Bytes.{u32-past, u32-short}
-use Rattle.wire.specs.Bytes.{u32At}
+use denote.Ref.{now}
 use borrow.Author.Needs.{needs}
+use Rattle.wire.specs.Bytes.{u32At}
+use Rattle.wire.proofs.Bytes.{u32-past, u32-short}
 use Rattle.wire.proofs.u32_at.Statement.{statement}
 use Rattle.wire.proofs.u32_at.Tie as tie
 

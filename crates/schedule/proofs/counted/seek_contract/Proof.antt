@@ -5,8 +5,8 @@ use mathlib.Core.Path.{_≡_, sym, _∙_}
 use native.Mathlib.Omega.{arith}
 use borrow.Author.Needs.{needs}
 use borrow.Author.Tests.{eq-eqb, ne-eqb}
-use Rattle.wire.specs.Tests.{seek}
-use Rattle.wire.proofs.Tests.{seek-hit, seek-next, seek-end}
+use Rattle.wire.specs.Choose.{seek}
+use Rattle.wire.proofs.Choose.{seek-hit, seek-next, seek-end}
 use Rattle.schedule.specs.Fields.{contract, listed}
 use Rattle.schedule.specs.Counted.{contractIs}
 use Rattle.schedule.proofs.counted.seek_contract.Statement.{statement}

@@ -3,7 +3,7 @@
 use mathlib.Core.Path.{sym, _∙_}
 use borrow.Author.Needs.{needs}
 use borrow.Author.Tests.{lt-leb, le-leb}
-use Rattle.wire.proofs.Tests.{here, next, done, chosen}
+use Rattle.wire.proofs.Choose.{here, next, done, chosen}
 use Rattle.schedule.specs.Counted.{statusOf}
 use Rattle.schedule.proofs.counted.status_in.Statement.{statement}
 use Rattle.schedule.proofs.counted.status_in.Tie as tie

@@ -10,9 +10,9 @@ use native.Mathlib.Omega.{arith}
 use borrow.Author.Needs.{needs}
 use borrow.Author.Tests.{lt-leb, le-leb, lt-ltb, le-ltb}
 use Rattle.wire.specs.Bytes.{u16At}
-use Rattle.wire.specs.Tests.{seek}
+use Rattle.wire.specs.Choose.{seek}
 use Rattle.wire.proofs.Bools.{yes, no}
-use Rattle.wire.proofs.Tests.{seek-hit, seek-next, seek-end}
+use Rattle.wire.proofs.Choose.{seek-hit, seek-next, seek-end}
 use Rattle.schedule.specs.Calendar.{isMonth}
 use Rattle.schedule.specs.Fields.{contract, before, listed, contractBad, contractsOk}
 use Rattle.schedule.proofs.fields.contracts_ok.Statement.{statement}

@@ -1,25 +1,20 @@
-use Rattle.wire.proofs.Tests.{and-all}
-use Rattle.schedule.specs.Fields.{firmOk}
+-- Each early return is the definition's first letter that is none.
+-- Assumes nothing.
 use borrow.Author.Needs.{needs}
+use Rattle.wire.proofs.Choose.{and-all}
+use Rattle.schedule.specs.Fields.{firmOk}
 use Rattle.schedule.proofs.fields.firm_ok.Statement.{statement}
 use Rattle.schedule.proofs.fields.firm_ok.Tie as tie
-use Rattle.schedule.proofs.fields.firm_ok.Reads as reads
-use Rattle.schedule.proofs.fields.firm_ok.Lts as lts
-use Rattle.schedule.proofs.fields.code_at.Reads as code-at-reads
 
--- src/fields.rt:159:5
 code-at-requires : tie.Need-code-at-requires
 code-at-requires c κs = search needs
 
--- src/fields.rt:159:24
 code-at-requires-2 : tie.Need-code-at-requires-2
 code-at-requires-2 c κs = search needs
 
--- src/fields.rt:159:43
 code-at-requires-3 : tie.Need-code-at-requires-3
 code-at-requires-3 c κs = search needs
 
--- src/fields.rt:156:1
 returns : tie.Need-returns
 unfolding firmOk
 returns c = rw (c .before .before .code-at .ensures, c .before .code-at2 .ensures, c .code-at3 .ensures) (and-all _ _)

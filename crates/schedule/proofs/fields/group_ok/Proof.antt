@@ -1,86 +1,62 @@
-use Rattle.wire.proofs.Tests.{and-all}
-use Rattle.schedule.specs.Fields.{groupOk}
+-- Each early return is the definition's first test that fails, and the last answer is that of the contracts.
+-- Assumes nothing.
 use borrow.Author.Needs.{needs}
+use Rattle.wire.proofs.Choose.{and-all}
+use Rattle.schedule.specs.Fields.{groupOk}
 use Rattle.schedule.proofs.fields.group_ok.Statement.{statement}
 use Rattle.schedule.proofs.fields.group_ok.Tie as tie
-use Rattle.schedule.proofs.fields.group_ok.Reads as reads
-use Rattle.schedule.proofs.fields.group_ok.Lts as lts
-use Rattle.schedule.proofs.calendar.within.Reads as within-reads
-use Rattle.schedule.proofs.fields.code_at.Reads as code-at-reads
-use Rattle.schedule.proofs.fields.contracts_ok.Reads as contracts-ok-reads
-use Rattle.wire.proofs.byte_at.Reads as byte-at-reads
-use Rattle.wire.proofs.u16_at.Reads as u16-at-reads
-use Rattle.wire.proofs.u32_at.Reads as u32-at-reads
 
--- src/fields.rt:121:5
 code-at-requires : tie.Need-code-at-requires
 code-at-requires c κs = search needs
 
--- src/fields.rt:122:11
 code-at-requires-2 : tie.Need-code-at-requires-2
 code-at-requires-2 c κs = search needs
 
--- src/fields.rt:123:24
 byte-at-requires : tie.Need-byte-at-requires
 byte-at-requires c κs = search needs
 
--- src/fields.rt:123:24
 cast-within : tie.Need-cast-within
 cast-within c = search needs
 
--- src/fields.rt:123:11
 within-requires : tie.Need-within-requires
 within-requires c κs = search needs
 
--- src/fields.rt:124:25
 byte-at-requires-2 : tie.Need-byte-at-requires-2
 byte-at-requires-2 c κs = search needs
 
--- src/fields.rt:124:25
 cast-within-2 : tie.Need-cast-within-2
 cast-within-2 c = search needs
 
--- src/fields.rt:124:11
 within-requires-2 : tie.Need-within-requires-2
 within-requires-2 c κs = search needs
 
--- src/fields.rt:125:29
 u32-at-requires : tie.Need-u32-at-requires
 u32-at-requires c κs = search needs
 
--- src/fields.rt:125:11
 within-requires-3 : tie.Need-within-requires-3
 within-requires-3 c κs = search needs
 
--- src/fields.rt:126:27
 u16-at-requires : tie.Need-u16-at-requires
 u16-at-requires c κs = search needs
 
--- src/fields.rt:126:27
 cast-within-3 : tie.Need-cast-within-3
 cast-within-3 c = search needs
 
--- src/fields.rt:126:11
 within-requires-4 : tie.Need-within-requires-4
 within-requires-4 c κs = search needs
 
--- src/fields.rt:127:27
 u16-at-requires-2 : tie.Need-u16-at-requires-2
 u16-at-requires-2 c κs = search needs
 
--- src/fields.rt:127:27
 cast-within-4 : tie.Need-cast-within-4
 cast-within-4 c = search needs
 
--- src/fields.rt:127:11
 within-requires-5 : tie.Need-within-requires-5
 within-requires-5 c κs = search needs
 
--- src/fields.rt:128:11
 contracts-ok-requires : tie.Need-contracts-ok-requires
 contracts-ok-requires c κs = search needs
 
--- src/fields.rt:118:1
 returns : tie.Need-returns
 unfolding groupOk
 returns c = rw (

@@ -2,7 +2,7 @@
 -- Assumes nothing.
 use mathlib.Core.Path.{sym, _∙_}
 use borrow.Author.Needs.{needs}
-use Rattle.wire.specs.Tests.{within}
+use Rattle.wire.specs.Choose.{within}
 use Rattle.schedule.specs.Fields.{isCode}
 use Rattle.schedule.proofs.fields.is_code.Statement.{statement}
 use Rattle.schedule.proofs.fields.is_code.Tie as tie

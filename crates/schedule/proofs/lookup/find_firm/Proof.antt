@@ -4,8 +4,8 @@ use Prim.Native.Nat.{_-_, _≤_}
 use mathlib.Core.Path.{_≡_, sym, _∙_}
 use borrow.Author.Needs.{needs}
 use borrow.Author.Tests.{lt-ltb, le-ltb}
-use Rattle.wire.specs.Tests.{seek}
-use Rattle.wire.proofs.Tests.{seek-hit, seek-next, seek-end}
+use Rattle.wire.specs.Choose.{seek}
+use Rattle.wire.proofs.Choose.{seek-hit, seek-next, seek-end}
 use Rattle.schedule.specs.Lookup.{firmIs, firmListed, firmFound}
 use Rattle.schedule.proofs.lookup.find_firm.Statement.{statement}
 use Rattle.schedule.proofs.lookup.find_firm.Tie as tie

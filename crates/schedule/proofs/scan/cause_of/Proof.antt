@@ -1,15 +1,15 @@
 -- Each return is the row of the table whose test is the first to hold: the tests on the way failed in the table's order.
 -- Assumes nothing.
-use mathlib.Core.Bool.{not}
 use Prim.Native.Nat.{ℕ}
+use mathlib.Core.Bool.{not}
 use mathlib.Core.Path.{_≡_, sym, _∙_, ap}
-use denote.Ref.{now}
-use lib.ListN.{drop}
 use native.Mathlib.Omega.{arith}
+use lib.ListN.{drop}
+use denote.Ref.{now}
 use borrow.Author.Needs.{needs}
 use borrow.Author.Tests.{lt-ltb, le-ltb}
 use Rattle.wire.proofs.Bools.{yes}
-use Rattle.wire.proofs.Tests.{Chosen, chosen, here, next, done}
+use Rattle.wire.proofs.Choose.{Chosen, chosen, here, next, done}
 use Rattle.schedule.specs.Check.{causes, cause}
 use Rattle.schedule.proofs.Laws.{body-length, length-bounds}
 use Rattle.schedule.proofs.scan.cause_of.Statement.{statement}

@@ -2,7 +2,7 @@
 -- Assumes nothing.
 use mathlib.Core.Path.{sym, _∙_, ap}
 use borrow.Author.Needs.{needs}
-use Rattle.wire.proofs.Tests.{chosen}
+use Rattle.wire.proofs.Choose.{chosen}
 use Rattle.schedule.specs.Check.{byKind, fieldsOk}
 use Rattle.schedule.specs.Fields.{headRead, headMeaning, groupRead, groupMeaning, firmRead, firmMeaning}
 use Rattle.schedule.proofs.Laws.{read-good, read-bad, kind-1, kind-2, kind-3, kind-other}

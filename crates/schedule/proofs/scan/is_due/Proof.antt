@@ -2,7 +2,7 @@
 -- Assumes nothing.
 use mathlib.Core.Path.{sym}
 use borrow.Author.Tests.{eq-eqb, ne-eqb}
-use Rattle.wire.proofs.Tests.{chosen}
+use Rattle.wire.proofs.Choose.{chosen}
 use Rattle.schedule.specs.Check.{isDue, byKind}
 use Rattle.schedule.proofs.Laws.{kind-1, kind-2, kind-3, kind-other}
 use Rattle.schedule.proofs.scan.is_due.Statement.{statement}

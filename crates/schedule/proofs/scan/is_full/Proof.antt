@@ -1,7 +1,7 @@
 -- Each kind has its row of the definition.
 -- Assumes nothing.
 use mathlib.Core.Path.{sym}
-use Rattle.wire.proofs.Tests.{chosen}
+use Rattle.wire.proofs.Choose.{chosen}
 use Rattle.schedule.specs.Check.{isFull, byKind}
 use Rattle.schedule.proofs.Laws.{kind-1, kind-2, kind-3, kind-other}
 use Rattle.schedule.proofs.scan.is_full.Statement.{statement}

@@ -1,14 +1,14 @@
 -- Laws of tables of cases, of tests that must all hold, and of searches.
 -- Assumes nothing.
 use Prim.Native.Nat.{ℕ, zero, suc, _+_, _-_, _≤_, _<_}
-use native.Mathlib.Omega.{arith}
-use native.Mathlib.Numerals.{add-one}
-use mathlib.Core.Path.{_≡_, refl, sym, _∙_, ap}
 use mathlib.Core.Bool.{Bool, true, false, cond, not, _&&_, and-true, and-assoc, false≢true}
 use mathlib.Core.List.{List, [], _∷_, foldl}
-use lib.Dec.{eqb, ltb}
+use mathlib.Core.Path.{_≡_, refl, sym, _∙_, ap}
+use native.Mathlib.Numerals.{add-one}
+use native.Mathlib.Omega.{arith}
+use lib.Dec.{eqb}
 use borrow.Author.Tests.{eq-eqb, eqb-true, eqb-false, ltb-false}
-use Rattle.wire.specs.Tests.{choose, all, seekIn, seek, some}
+use Rattle.wire.specs.Choose.{choose, all, seekIn, seek, some}
 use Rattle.wire.proofs.Bools.{and-left, and-right}
 
 -- how a choice was made: from the top, tests that fail are passed, and one that holds decides
