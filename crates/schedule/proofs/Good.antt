@@ -269,6 +269,7 @@ good-schedule S {l} e =
       mostFirms = f .firms;
       starts = s .starts pos;
       ends = omega (arith, s .place pos, f .inside, q .over);
+      short = omega (arith, f .near, f .groups, f .firms, q .over);
       monthRead = refl;
       closedRead = refl;
       month = head-month S (h .0) (h .1);

@@ -26,6 +26,8 @@ pub record GoodSchedule (S : List ℕ) (l : Layout) : Type 0 where
   -- the groups follow the head, the firms the groups, and nothing the firms
   pub starts : l .start ≡ groupStart S (l .groups)
   pub ends : length S ≡ firmStart (l .start) (l .firms)
+  -- so it has at most 10 + 144 × 32 + 7 × 200 bytes
+  pub short : length S ≤ 6018
   -- the head's fields, in range: a month number, and no bit past the month's end
   pub monthRead : l .month ≡ u16At S 4
   pub closedRead : l .closed ≡ u32At S 6
