@@ -86,11 +86,11 @@ pub record Same (j k : Judged) (i : ℕ) : Type 0 where
   pub exempt : j .exempt i ≡ k .exempt i
   pub grouping : j .grouping i ≡ k .grouping i
 
-module _ (P : Rules) (j k : Judged) (n : ℕ) (h : (i : ℕ) → i < n → Same j k i) where
+module _ (j k : Judged) (n : ℕ) (h : (i : ℕ) → i < n → Same j k i) where
   pub left-same : (e i : ℕ) → i < n → left j e i ≡ left k e i
   left-same e i l = rw (h i l .code, h i l .exempt, h i l .grouping)
 
-  pub mark-same : (i : ℕ) → i < n → mark P j i ≡ mark P k i
-  mark-same i l =
+  pub mark-same : (P : Rules) (i : ℕ) → i < n → mark P j i ≡ mark P k i
+  mark-same P i l =
       let e : (e : ℕ) → count i (left j e) ≡ count i (left k e) = λ e. sum-same i _ _ (λ m q. ap bit (left-same e m (lt-trans q l))) in
       rw (e (j .grouping i), h i l .code, h i l .exempt, h i l .grouping)

@@ -7,10 +7,7 @@ ghost use Rattle.wire.specs.Choose.{within};
 pub(crate) fn within(lo: u32, hi: u32, x: u32) -> bool
     ensures { λ r. ⌜ r ≡ within lo hi x ⌝ }
 {
-    if x < lo {
-        return false;
-    }
-    x <= hi
+    (lo <= x) & (x <= hi)
 }
 
 pub(crate) fn is_month(m: u16) -> bool
@@ -24,10 +21,7 @@ const MONTH_DAYS: [u8; 12] = [31, 28, 31, 30, 31, 30, 31, 31, 30, 31, 30, 31];
 fn is_leap_february(m: u16) -> bool
     ensures { λ r. ⌜ r ≡ isLeapFebruary m ⌝ }
 {
-    if m % 12 != 1 {
-        return false;
-    }
-    m / 12 % 4 == 0
+    (m % 12 == 1) & (m / 12 % 4 == 0)
 }
 
 // The days of a month.

@@ -54,10 +54,7 @@ pub(crate) enum FirmRead {
 fn is_code(x: u8) -> bool
     ensures { λ r. ⌜ r ≡ isCode x ⌝ }
 {
-    if within(65, 90, x as u32) {
-        return true;
-    }
-    within(48, 57, x as u32)
+    within(65, 90, x as u32) | within(48, 57, x as u32)
 }
 
 fn code_at(body: &[u8], at: usize) -> bool

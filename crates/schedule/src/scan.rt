@@ -46,12 +46,7 @@ fn is_due(kind: u16, p: Cursor) -> bool
 {
     match kind {
         1 => p.at == 0,
-        2 => {
-            if p.at == 0 {
-                return false;
-            }
-            p.firms == 0
-        }
+        2 => (p.at != 0) & (p.firms == 0),
         3 => p.groups != 0,
         _ => false,
     }
@@ -62,15 +57,7 @@ fn length_ok(kind: u16, len: usize) -> bool
 {
     match kind {
         1 => len == 10,
-        2 => {
-            if len < 18 {
-                return false;
-            }
-            if 144 < len {
-                return false;
-            }
-            len % 2 == 0
-        }
+        2 => (18 <= len) & (len <= 144) & (len % 2 == 0),
         3 => len == 7,
         _ => false,
     }

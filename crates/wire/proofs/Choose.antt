@@ -38,24 +38,7 @@ passed [] t e = tt
 passed ((true, n) ∷ cs) t e = absurd (false≢true (ap not (sym (eq-eqb n 0 e)) ∙ and-left (not (eqb n 0)) (numbered cs) t))
 passed ((false, n) ∷ cs) t e = (refl, passed cs (and-right (not (eqb n 0)) (numbered cs) t) e)
 
--- the same for a list of tests that must all hold
-pub data Holds : List Bool → Bool → Type 0 where
-  fails : {b : Bool} {bs : List Bool} → b ≡ false → Holds (b ∷ bs) false
-  and : {b r : Bool} {bs : List Bool} → b ≡ true → Holds bs r → Holds (b ∷ bs) r
-  every : Holds [] true
-
--- the answer is the last test's
-pub last : {b r : Bool} → b ≡ r → Holds (b ∷ []) r
-last {r = true} e = and e every
-last {r = false} e = fails e
-
-pub holds : {bs : List Bool} {r : Bool} → Holds bs r → all bs ≡ r
-unfolding all
-holds (fails e) = rw e
-holds (and e m) = rw (e, holds m)
-holds every = refl
-
--- and where they all hold, each does
+-- where every test of a list holds, each does
 abbrev pub Every : List Bool → Type 0
 Every [] = Unit {0}
 Every (b ∷ bs) = (b ≡ true) × Every bs

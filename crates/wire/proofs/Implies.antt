@@ -12,12 +12,6 @@ infixr 20 _⇒_
 pub record _⇒_ (a b : Bool) : Type 0 where
   pub le : bit a ≤ bit b
 
-pub same : {a : Bool} → a ⇒ a
-same = omega arith
-
-pub trans : {a b c : Bool} → a ⇒ b → b ⇒ c → a ⇒ c
-trans p q = omega arith
-
 pub not-⇒ : {a b : Bool} → a ⇒ b → not b ⇒ not a
 not-⇒ {b = true} h = omega arith
 not-⇒ {a = true} {b = false} h = omega arith
@@ -27,10 +21,6 @@ pub and-⇒ : {a b c d : Bool} → a ⇒ b → c ⇒ d → a && c ⇒ b && d
 and-⇒ {a = false} h k = omega arith
 and-⇒ {a = true} {b = true} h k = k
 and-⇒ {a = true} {b = false} h k = omega arith
-
-pub both-right : (a b : Bool) → a && b ⇒ b
-both-right true b = same
-both-right false b = omega arith
 
 pub leb-⇒ : {a a′ b b′ : ℕ} → a′ ≤ a → b ≤ b′ → leb a b ⇒ leb a′ b′
 leb-⇒ {a} {a′} {b} {b′} h k = go (leb a b) (leb a′ b′) refl refl

@@ -1,9 +1,9 @@
 -- While fewer than k were found the front mask decides; after them the extra mask, for the first there.
 -- Assumes nothing.
 use Prim.Native.Nat.{ℕ, _+_, _*_, _≤_, _<_}
-use mathlib.Core.Bool.{Bool, true, false, not, _&&_, _||_}
+use mathlib.Core.Bool.{true, false, or-false, and-true, and-false}
 use mathlib.Core.List.{List}
-use mathlib.Core.Path.{_≡_, refl, sym, _∙_}
+use mathlib.Core.Path.{_≡_, sym, _∙_}
 use native.Mathlib.Omega.{arith}
 use lib.ListN.{getD}
 use borrow.Author.Needs.{needs}
@@ -14,19 +14,6 @@ use Rattle.schedule.specs.Fields.{contract, listed}
 use Rattle.schedule.specs.Counted.{inMask, inFront, isAfter, isLate, isCounted}
 use Rattle.schedule.proofs.counted.is_counted.Statement.{statement}
 use Rattle.schedule.proofs.counted.is_counted.Tie as tie
-
--- x is its own choice beside a test that fails
-or-none : (x : Bool) → x ≡ (x || false)
-or-none true = refl
-or-none false = refl
-
-none : (x : Bool) → false ≡ (x && false)
-none true = refl
-none false = refl
-
-alone : (x : Bool) → x ≡ (x && true)
-alone true = refl
-alone false = refl
 
 module _ (B : List ℕ) (i : ℕ) {front k : ℕ} (p : front ≡ count i (inFront B)) (q : k ≡ getD B 3 0) where
   not-after : front < k → isAfter B i ≡ false
@@ -41,17 +28,17 @@ module _ (B : List ℕ) (i : ℕ) {mask m : ℕ} (e : m ≡ u16At B (12 + 2 * i)
   -- fewer than k stand before it: the front mask decides
   by-front : isAfter B i ≡ false → mask ≡ u16At B 8 → inMask mask m ≡ isCounted B i
   unfolding isCounted isLate inFront contract
-  by-front a f = rw (a, ← f, ← e) (or-none (inMask mask m))
+  by-front a f = rw (a, ← f, ← e) (sym (or-false (inMask mask m)))
 
   -- after k, and first in the extra mask there: the extra mask decides
   by-extra : isAfter B i ≡ true → mask ≡ u16At B 10 → count i (isLate B) ≡ 0 → inMask mask m ≡ isCounted B i
   unfolding isCounted isLate contract
-  by-extra a f z = rw (a, eq-eqb _ _ z, ← f, ← e) (alone (inMask mask m))
+  by-extra a f z = rw (a, eq-eqb _ _ z, ← f, ← e) (sym (and-true (inMask mask m)))
 
 -- after k, and not the first there
 too-late : (B : List ℕ) (i : ℕ) → isAfter B i ≡ true → (count i (isLate B) ≡ 0 → ⊥) → false ≡ isCounted B i
 unfolding isCounted
-too-late B i a z = rw (a, ne-eqb _ _ z) (none (isLate B i))
+too-late B i a z = rw (a, ne-eqb _ _ z) (sym (and-false (isLate B i)))
 
 passed-before-requires : tie.Need-passed-before-requires
 passed-before-requires c κs = search needs
