@@ -1,0 +1,11 @@
+-- The two tests are the definition's, of the same month and year.
+-- Assumes nothing.
+use mathlib.Core.Path.{refl}
+use Rattle.schedule.proofs.calendar.is_leap_february.Statement.{statement}
+use Rattle.schedule.proofs.calendar.is_leap_february.Tie as tie
+
+returns : tie.Need-returns
+returns c = refl
+
+pub is-leap-february-spec : {M : Type 1} → statement M
+is-leap-february-spec = tie.close (tie.spec returns)
