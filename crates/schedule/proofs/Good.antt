@@ -24,7 +24,7 @@ use Rattle.schedule.specs.declared.scan.Layout.{Layout}
 use Rattle.schedule.proofs.Laws.{kind-1, kind-2, kind-3, kind-other, KindOf, head, group, firm, other, kindOf, length-bounds, group-next}
 use Rattle.schedule.proofs.Turns.{Fine, accepted, after-1, after-2, after-3}
 
-refused-good : {n o : ℕ} {l : Layout} → refused n o ≡ good l → ⊥
+pub refused-good : {A : Type 0} {n o : ℕ} {a : A} → refused n o ≡ good a → ⊥
 refused-good e = let z : _≡_ {A = ℕ} 0 1 = cc in omega arith
 
 -- where a good schedule ends: P holds there, no bytes are left, and the layout is that of the place

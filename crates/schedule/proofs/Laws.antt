@@ -3,20 +3,20 @@
 use Prim.Native.Nat.{ℕ, zero, suc, _+_, _-_, _%_, _≤_, _<_, zero-le}
 use mathlib.Core.Bool.{Bool, true, false, cond, _&&_, false≢true}
 use mathlib.Core.List.{List, [], _∷_}
-use mathlib.Core.Path.{_≡_, refl, sym, _∙_}
+use mathlib.Core.Path.{_≡_, refl, sym, _∙_, ap}
 use native.Mathlib.Numerals.{add-one}
 use native.Mathlib.Omega.{arith}
 use lib.Dec.{eqb, leb}
 use lib.ListN.{length, getD, take, drop, drop-of-length-le, length-drop}
 use lib.Seq.{take-nil, take-all}
-use borrow.Author.Tests.{eq-eqb, ne-eqb, leb-true, eqb-true, eqb-false}
+use borrow.Author.Tests.{eq-eqb, ne-eqb, leb-true, ltb-true, eqb-true, eqb-false}
 use Rattle.wire.specs.Bytes.{u16At}
-use Rattle.wire.specs.Choose.{within}
+use Rattle.wire.specs.Choose.{within, seek, some}
 use Rattle.wire.proofs.Bools.{and-left, and-right, cond-true, cond-false, cond-le, range}
-use Rattle.wire.proofs.Choose.{Chosen, here, next, done, chosen}
+use Rattle.wire.proofs.Choose.{Chosen, here, next, done, chosen, sought}
 use Rattle.schedule.specs.Calendar.{monthDays, isLeapFebruary, daysIn}
 use Rattle.schedule.specs.Fields.{fields, refusal, readIf}
-use Rattle.schedule.specs.Lookup.{found, unlisted, bodyAt, groupStart}
+use Rattle.schedule.specs.Lookup.{found, unlisted, bodyAt, groupStart, GroupPlace, groupPlace, groupIs, groupListed, groupFound, firmIs, firmListed, firmFound}
 use Rattle.schedule.specs.Check.{byKind, lengthOk}
 
 -- the choice by a record's kind
@@ -67,6 +67,46 @@ module _ {A : Type 0} (b : Bool) (a : A) where
 
   pub unlisted-listed : unlisted ≡ cond b (found a) unlisted → false ≡ b
   unlisted-listed e = cond-false b _ _ (sym e) (λ q. let z : _≡_ {A = ℕ} 0 1 = cc in omega arith)
+
+-- and what was found is the first that has it
+found-is : {A : Type 0} (b : Bool) (a : A) {x : A} → found x ≡ cond b (found a) unlisted → a ≡ x
+found-is true a e = cc
+found-is false a e = let z : _≡_ {A = ℕ} 0 1 = cc in absurd (omega arith)
+
+-- what a search for a code tells: a record of n at which the test holds, and the first
+pub record FoundAt (n : ℕ) (p : ℕ → Bool) (i : ℕ) : Type 0 where
+  pub listed : some n p ≡ true
+  pub first : seek 0 n p ≡ i
+  pub inside : i < n
+  pub holds : p i ≡ true
+
+found-at : (n : ℕ) (p : ℕ → Bool) {i : ℕ} → some n p ≡ true → seek 0 n p ≡ i → FoundAt n p i
+found-at n p t e =
+    let inside = ltb-true (seek 0 n p) n t in
+    rw (← e) (record { listed = t; first = refl; inside = inside; holds = sought n p .found (omega arith) })
+
+module _ (S : List ℕ) (start n : ℕ) (C : List ℕ) where
+  pub firm-found : {i : ℕ} → found i ≡ firmFound S start n C → FoundAt n (firmIs S start C) i
+  unfolding firmFound firmListed
+  firm-found e = found-at n _ (sym (found-listed _ _ e)) (found-is (firmListed S start n C) _ e)
+
+  pub firm-unlisted : unlisted ≡ firmFound S start n C → firmListed S start n C ≡ false
+  unfolding firmFound
+  firm-unlisted e = sym (unlisted-listed _ _ e)
+
+module _ (S : List ℕ) (n first second : ℕ) where
+  pub group-found : {g : GroupPlace} → found g ≡ groupFound S n first second → FoundAt n (groupIs S first second) (g .index)
+  unfolding groupFound groupListed
+  group-found e = found-at n _ (sym (found-listed _ _ e)) (ap (λ g. g .index) (found-is (groupListed S n first second) _ e))
+
+  -- the group stands where the first one does
+  pub group-placed : {g : GroupPlace} → found g ≡ groupFound S n first second → g ≡ groupPlace S (seek 0 n (groupIs S first second))
+  unfolding groupFound
+  group-placed e = sym (found-is (groupListed S n first second) _ e)
+
+  pub group-unlisted : unlisted ≡ groupFound S n first second → groupListed S n first second ≡ false
+  unfolding groupFound
+  group-unlisted e = sym (unlisted-listed _ _ e)
 
 -- a group's start, in the code's form of the next index
 pub group-next : (S : List ℕ) (i : ℕ) → groupStart S (i + 1) ≡ groupStart S i + u16At S (groupStart S i)

@@ -69,25 +69,35 @@ after S p =
     (record { at = next; groups = p .groups; firms = p .firms + 1; start = p .start })
     p
 
--- what the check comes to: a number of refusal with an offset, or what the schedule holds
-pub data Outcome : Type 0 where
-  refused : (number offset : ℕ) → Outcome
-  good : Layout → Outcome
+-- Numbers of refusal: what a call comes to, the number and the offset of a refusal, or what it answers
+pub data Outcome (A : Type 0) : Type 0 where
+  refused : (number offset : ℕ) → Outcome A
+  good : A → Outcome A
 
--- what the check's answer means
-abbrev pub meaning : Checked → Outcome
+-- a refusal stands, and what is good goes on to f
+abbrev pub follow : {A B : Type 0} → Outcome A → (A → Outcome B) → Outcome B
+follow (refused number offset) f = refused number offset
+follow (good a) f = f a
+
+-- what f makes of what is good, and b where there was a refusal
+abbrev pub given : {A B : Type 0} → Outcome A → B → (A → B) → B
+given (refused number offset) b f = b
+given (good a) b f = f a
+
+-- what the check's answer means: a refusal, or what the schedule holds
+abbrev pub meaning : Checked → Outcome Layout
 meaning (checked.Refused number offset) = refused number offset
 meaning (checked.Good l) = good l
 
 -- Numbers of refusal, at the end 4, with the schedule's length: a firm comes after a group and a head, so it is missing where one of the three is
-unfoldable pub ending : List ℕ → Cursor → Outcome
+unfoldable pub ending : List ℕ → Cursor → Outcome Layout
 ending S p =
     cond (eqb (p .firms) 0)
     (refused 4 (length S))
     (good (record { month = u16At S 4; closed = u32At S 6; groups = p .groups; firms = p .firms; start = p .start }))
 
 -- Numbers of refusal: the records from p on, at most `fuel` of them; the answer is the number and the record's offset
-unfoldable pub scan : List ℕ → (fuel : ℕ) → Cursor → Outcome
+unfoldable pub scan : List ℕ → (fuel : ℕ) → Cursor → Outcome Layout
 scan S zero p = refused 0 0
 scan S (suc fuel) p =
     choose
@@ -99,5 +109,5 @@ abbrev pub begin : Cursor
 begin = record { at = 0; groups = 0; firms = 0; start = 0 }
 
 -- the check of a schedule; each accepted record has a byte, so its length is fuel enough
-unfoldable pub checkOf : List ℕ → Outcome
+unfoldable pub checkOf : List ℕ → Outcome Layout
 checkOf S = scan S (length S + 1) begin

@@ -7,7 +7,7 @@ use mathlib.Core.Path.{_≡_}
 use lib.Dec.{leb, eqb}
 use lib.ListN.{getD}
 use Rattle.wire.specs.Bytes.{u16At}
-use Rattle.wire.specs.Choose.{choose, seek}
+use Rattle.wire.specs.Choose.{choose, seek, some}
 use Rattle.wire.specs.Sums.{count}
 use Rattle.schedule.specs.Calendar.{bitAt}
 use Rattle.schedule.specs.Fields.{contract, listed}
@@ -46,6 +46,14 @@ module _ (B : List ℕ) where
 unfoldable pub contractIs : List ℕ → (m i : ℕ) → Bool
 contractIs B m i = eqb (contract B i) m
 
+-- the group lists the contract m
+unfoldable pub contractListed : List ℕ → (m : ℕ) → Bool
+contractListed B m = some (listed B) (contractIs B m)
+
+-- and counts it
+unfoldable pub contractCounted : List ℕ → (m : ℕ) → Bool
+contractCounted B m = isCounted B (seek 0 (listed B) (contractIs B m))
+
 -- what a contract comes to: the number of a refusal, outside or counted
 pub data Taken : Type 0 where
   refusal : ℕ → Taken
@@ -59,6 +67,4 @@ statusMeaning status.Counted = counted
 
 -- how a group takes the contract m
 unfoldable pub statusOf : List ℕ → (m : ℕ) → Taken
-statusOf B m =
-    let i = seek 0 (listed B) (contractIs B m) in
-    choose ((leb (listed B) i, refusal 17) ∷ (isCounted B i, counted) ∷ []) outside
+statusOf B m = choose ((not (contractListed B m), refusal 17) ∷ (contractCounted B m, counted) ∷ []) outside

@@ -16,6 +16,11 @@ pub and-right : (a b : Bool) → (a && b) ≡ true → b ≡ true
 and-right true b e = e
 and-right false b e = absurd (false≢true e)
 
+-- a test that cannot hold fails
+pub never : (b : Bool) → (b ≡ true → ⊥) → b ≡ false
+never true h = absurd (h refl)
+never false h = refl
+
 -- which side of a choice an answer shows
 pub cond-true : {A : Type 0} (b : Bool) (a d : A) {r : A} → cond b a d ≡ r → (d ≡ r → ⊥) → true ≡ b
 cond-true true a d e n = refl

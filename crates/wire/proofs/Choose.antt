@@ -2,7 +2,7 @@
 -- Assumes nothing.
 use Prim.Native.Nat.{ℕ, zero, suc, _+_, _-_, _≤_, _<_}
 use mathlib.Core.Bool.{Bool, true, false, cond, not, _&&_, and-true, and-assoc, false≢true}
-use mathlib.Core.List.{List, [], _∷_, foldl}
+use mathlib.Core.List.{List, [], _∷_, _++_, foldl}
 use mathlib.Core.Path.{_≡_, refl, sym, _∙_, ap}
 use native.Mathlib.Numerals.{add-one}
 use native.Mathlib.Omega.{arith}
@@ -38,7 +38,24 @@ passed [] t e = tt
 passed ((true, n) ∷ cs) t e = absurd (false≢true (ap not (sym (eq-eqb n 0 e)) ∙ and-left (not (eqb n 0)) (numbered cs) t))
 passed ((false, n) ∷ cs) t e = (refl, passed cs (and-right (not (eqb n 0)) (numbered cs) t) e)
 
--- where every test of a list holds, each does
+-- of one table after another the first decides where it comes to a number, and the second where it comes to 0
+pub choose-first : (cs ds : List (Bool × ℕ)) {n : ℕ} → choose cs 0 ≡ n → (n ≡ 0 → ⊥) → choose (cs ++ ds) 0 ≡ n
+unfolding choose
+choose-first [] ds e h = absurd (h (sym e))
+choose-first ((true, a) ∷ cs) ds e h = e
+choose-first ((false, a) ∷ cs) ds e h = choose-first cs ds e h
+
+pub choose-second : (cs ds : List (Bool × ℕ)) → Passed cs → choose (cs ++ ds) 0 ≡ choose ds 0
+unfolding choose
+choose-second [] ds p = refl
+choose-second ((b, n) ∷ cs) ds p = rw (p .0) (choose-second cs ds (p .1))
+
+-- where every test of both failed, every test of the first did
+pub passed-first : (cs ds : List (Bool × ℕ)) → Passed (cs ++ ds) → Passed cs
+passed-first [] ds p = tt
+passed-first (c ∷ cs) ds p = (p .0, passed-first cs ds (p .1))
+
+-- every test of a list holds just where each does
 abbrev pub Every : List Bool → Type 0
 Every [] = Unit {0}
 Every (b ∷ bs) = (b ≡ true) × Every bs
@@ -47,6 +64,11 @@ pub each : (bs : List Bool) → all bs ≡ true → Every bs
 unfolding all
 each [] e = tt
 each (b ∷ bs) e = (and-left b (all bs) e, each bs (and-right b (all bs) e))
+
+pub every : (bs : List Bool) → Every bs → all bs ≡ true
+unfolding all
+every [] h = refl
+every (b ∷ bs) h = rw (h .0, every bs (h .1))
 
 -- tests joined from the left, as code does by `&`
 pub and-all : (b : Bool) (bs : List Bool) → foldl _&&_ b bs ≡ all (b ∷ bs)

@@ -7,8 +7,8 @@ use mathlib.Core.Path.{_≡_, refl, sym, ap, _∙_}
 use native.Mathlib.Nat.{le-refl, le-trans, eq-or-lt-of-le, add-zero}
 use native.Mathlib.Numerals.{add-one}
 use native.Mathlib.Omega.{arith}
-use lib.ListN.{length, take-append-drop, take, drop, length-append, length-drop, length-take, drop-of-length-le, getD, set}
-use lib.Seq.{take-all, drop-drop, take-append-seam, drop-append-add, getD-append-add, getD-drop, drop-cons, set-append-seam}
+use lib.ListN.{length, take-append-drop, take, drop, length-append, length-drop, length-take, drop-of-length-le, getD, set, List·getD-append}
+use lib.Seq.{length-take-le, take-all, drop-drop, take-append-seam, drop-append-add, getD-append-add, getD-take, getD-drop, drop-cons, set-append-seam, drop-at, getD-at}
 use Rattle.wire.specs.Lists.{joined, table, put, over}
 
 module _ {A : Type 0} where
@@ -39,6 +39,44 @@ module _ {A : Type 0} where
 
   pub length-put : (at : ℕ) (vs xs : List A) → at + length vs ≤ length xs → length (put at vs xs) ≡ length xs
   length-put at vs xs h = simp (length-append, length-take, length-drop) (omega arith)
+
+  -- reading a list into which vs was put, inside what was put and outside it, and what lies behind
+  module _ (at : ℕ) (vs xs : List A) (room : at + length vs ≤ length xs) where
+    -- up to the end of what was put there are this many places
+    length-till : length (take at xs ++ vs) ≡ at + length vs
+    length-till = simp (length-append, length-take) (omega arith)
+
+    pub put-in : (k : ℕ) (d : A) → k < length vs → getD (put at vs xs) (at + k) d ≡ getD vs k d
+    put-in k d h =
+        let e : length (take at xs) ≡ at = length-take-le at xs (omega arith) in
+        List·getD-append (take at xs ++ vs) (drop (at + length vs) xs) d (at + k) (rw length-till (omega arith))
+        ∙ ap (λ (n : ℕ). getD (take at xs ++ vs) (n + k) d) (sym e)
+        ∙ getD-append-add (take at xs) vs k d
+
+    pub put-front : (k : ℕ) (d : A) → k < at → getD (put at vs xs) k d ≡ getD xs k d
+    put-front k d h =
+        let e : length (take at xs) ≡ at = length-take-le at xs (omega arith) in
+        List·getD-append (take at xs ++ vs) (drop (at + length vs) xs) d k (rw length-till (omega arith))
+        ∙ List·getD-append (take at xs) vs d k (omega arith)
+        ∙ getD-take at xs k d h
+
+    pub drop-put : (n : ℕ) → at + length vs ≤ n → drop n (put at vs xs) ≡ drop n xs
+    drop-put n h =
+        let e : n ≡ length (take at xs ++ vs) + (n - (at + length vs)) = rw length-till (omega arith) in
+        let f : at + length vs + (n - (at + length vs)) ≡ n = omega arith in
+        ap (λ (k : ℕ). drop k (put at vs xs)) e
+        ∙ drop-append-add (take at xs ++ vs) (drop (at + length vs) xs) (n - (at + length vs))
+        ∙ drop-drop (n - (at + length vs)) (at + length vs) xs
+        ∙ ap (λ (k : ℕ). drop k xs) f
+
+    pub put-past : (k : ℕ) (d : A) → at + length vs ≤ k → getD (put at vs xs) k d ≡ getD xs k d
+    put-past k d h =
+        let e : k ≡ k + 0 = omega arith in
+        ap (λ (n : ℕ). getD (put at vs xs) n d) e
+        ∙ sym (getD-drop k (put at vs xs) 0 d)
+        ∙ ap (λ l. getD l 0 d) (drop-put k h)
+        ∙ getD-drop k xs 0 d
+        ∙ ap (λ (n : ℕ). getD xs n d) (sym e)
 
   module _ (f : ℕ → List A) where
     pub joined-none : joined 0 f ≡ []
@@ -84,6 +122,21 @@ module _ {A : Type 0} where
     unfolding joined
     length-table zero = refl
     length-table (suc n) = let e = length-table n in simp length-append (omega arith)
+
+    -- what stands at a place of the table, over a list and behind it
+    pub table-at : (n i : ℕ) (d : A) → i < n → getD (table n f) i d ≡ f i
+    unfolding joined
+    table-at zero i d h = absurd (omega arith)
+    table-at (suc n) i d h =
+        ⊎-elim (λ (e : i ≡ n). rw e (getD-at (table n f) (f n) [] d n (length-table n)))
+        (λ (l : i < n). List·getD-append (table n f) (f n ∷ []) d i (rw length-table l) ∙ table-at n i d l)
+        (eq-or-lt-of-le (omega arith))
+
+    pub table-over : (n i : ℕ) (xs : List A) (d : A) → i < n → getD (over (table n f) xs) i d ≡ f i
+    table-over n i xs d h = List·getD-append (table n f) (drop (length (table n f)) xs) d i (rw length-table h) ∙ table-at n i d h
+
+    pub table-behind : (n : ℕ) (xs : List A) → drop n (over (table n f) xs) ≡ drop n xs
+    table-behind n xs = drop-at (table n f) (drop (length (table n f)) xs) n (length-table n) ∙ ap (λ (k : ℕ). drop k xs) (length-table n)
 
     pub table-read : (i : ℕ) (xs : List A) (d : A) → getD (over (table i f) xs) i d ≡ getD xs i d
     table-read i xs d =

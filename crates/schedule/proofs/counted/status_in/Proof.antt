@@ -1,10 +1,11 @@
 -- The three answers are the rows of the definition's table, in its order.
 -- Assumes nothing.
-use mathlib.Core.Path.{sym, _∙_}
+use mathlib.Core.Bool.{not}
+use mathlib.Core.Path.{sym, _∙_, ap}
 use borrow.Author.Needs.{needs}
-use borrow.Author.Tests.{lt-leb, le-leb}
+use borrow.Author.Tests.{lt-ltb, le-ltb}
 use Rattle.wire.proofs.Choose.{here, next, done, chosen}
-use Rattle.schedule.specs.Counted.{statusOf}
+use Rattle.schedule.specs.Counted.{contractListed, contractCounted, statusOf}
 use Rattle.schedule.proofs.counted.status_in.Statement.{statement}
 use Rattle.schedule.proofs.counted.status_in.Tie as tie
 
@@ -15,24 +16,24 @@ listed-in-requires : tie.Need-listed-in-requires
 listed-in-requires c κs = search needs
 
 returns : tie.Need-returns
-unfolding statusOf
-returns c = sym (chosen (here (rw (c .before .before .seek-contract .ensures, c .before .listed-in .ensures) at (le-leb _ _ (c .if1 .taken)))))
+unfolding statusOf contractListed contractCounted
+returns c = sym (chosen (here (rw (c .before .before .seek-contract .ensures, c .before .listed-in .ensures) at (ap not (le-ltb _ _ (c .if1 .taken))))))
 
 is-counted-requires : tie.Need-is-counted-requires
 is-counted-requires c κs = search needs
 
 returns-2 : tie.Need-returns-2
-unfolding statusOf
+unfolding statusOf contractListed contractCounted
 returns-2 c = sym
     (chosen
-    (next (rw (c .before .before .before .before .seek-contract .ensures, c .before .before .before .listed-in .ensures) at (lt-leb _ _ (c .before .before .if1 .left)))
+    (next (rw (c .before .before .before .before .seek-contract .ensures, c .before .before .before .listed-in .ensures) at (ap not (lt-ltb _ _ (c .before .before .if1 .left))))
     (here (rw (c .before .before .before .before .seek-contract .ensures) at (sym (c .before .is-counted .ensures) ∙ c .if2 .taken)))))
 
 returns-3 : tie.Need-returns-3
-unfolding statusOf
+unfolding statusOf contractListed contractCounted
 returns-3 c = sym
     (chosen
-    (next (rw (c .before .before .before .before .seek-contract .ensures, c .before .before .before .listed-in .ensures) at (lt-leb _ _ (c .before .before .if1 .left)))
+    (next (rw (c .before .before .before .before .seek-contract .ensures, c .before .before .before .listed-in .ensures) at (ap not (lt-ltb _ _ (c .before .before .if1 .left))))
     (next (rw (c .before .before .before .before .seek-contract .ensures) at (sym (c .before .is-counted .ensures) ∙ c .if2 .left)) done)))
 
 pub status-in-spec : {M : Type 1} → statement M
