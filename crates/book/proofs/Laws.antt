@@ -1,0 +1,203 @@
+-- After any list of posts the book holds the accepted totals, and keeps its length and what lies past its cells; with the laws of accepted
+-- totals this is specs/Laws.antt.
+-- Assumes nothing.
+use Prim.Native.Nat.{ℕ, _+_, _-_, _*_, _≤_, _<_}
+use mathlib.Core.Bool.{Bool, true, false, cond, _&&_, false≢true}
+use mathlib.Core.List.{List, [], _∷_}
+use mathlib.Core.Path.{_≡_, refl, sym, _∙_, ap, fun-ext}
+use native.Mathlib.Omega.{arith}
+use lib.Dec.{ltb}
+use lib.ListN.{length, getD, drop}
+use borrow.Author.Tests.{ltb-true, ltb-false, lt-ltb, le-ltb}
+use Rattle.wire.specs.Choose.{within}
+use Rattle.wire.specs.Lists.{table, over}
+use Rattle.wire.proofs.Bools.{and-left, and-right, range, in-range}
+use Rattle.wire.proofs.Lists.{length-over, length-put, drop-put, length-table, table-over, table-behind}
+use Rattle.rules.specs.declared.Totals.{Totals}
+use Rattle.schedule.specs.Check.{Outcome, refused, good, follow, given, checkOf}
+use Rattle.schedule.specs.declared.scan.Layout.{Layout}
+use Rattle.schedule.proofs.Good.{refused-good}
+use Rattle.book.specs.Activity.{day, totalsOf}
+use Rattle.book.specs.Book.{size, index, none, cellAt, withCell, cells, checkBook, openAnswer, openBook}
+use Rattle.book.specs.Post.{plus, firmOf, groupOf, indexOf, isAdded, bookIn, postBook}
+use Rattle.book.specs.Accepted.{isAt, accept, accepted, own, posted}
+use Rattle.book.specs.Laws.{Laws}
+use Rattle.book.proofs.Places.{totals-eq, cell-same, cell-other, Placed, inside, same-cell}
+use Rattle.book.proofs.Admitted.{admitted-inside, added}
+use Rattle.book.proofs.Accepted.{fold-keeps, fold-kept, at-same, same-at, accepted-fold, accepted-own, accepted-none, accepted-fits}
+
+-- a book that is as long as it was, and the same from n on
+record Kept (n : ℕ) (B B′ : List ℕ) : Type 0 where
+  long : length B′ ≡ length B
+  rest : drop n B′ ≡ drop n B
+
+-- a book that did not change is kept, and so is one that was kept twice
+kept-same : {n : ℕ} {B : List ℕ} → Kept n B B
+kept-same = record { long = refl; rest = refl }
+
+kept-on : {n : ℕ} {B B′ B″ : List ℕ} → Kept n B B′ → Kept n B′ B″ → Kept n B B″
+kept-on h k = record { long = k .long ∙ h .long; rest = k .rest ∙ h .rest }
+
+-- writing a cell before n keeps the book
+kept-cell : (n : ℕ) (B : List ℕ) (i : ℕ) (t : Totals) → i + 3 ≤ n → n ≤ length B → Kept n B (withCell B i t)
+kept-cell n B i t h k =
+    let vs : List ℕ = t .raw ∷ t .score ∷ t .lots ∷ [] in
+    record { long = length-put i vs B (omega arith); rest = drop-put i vs B (omega arith) n h }
+
+-- so does clearing the first n numbers
+kept-clear : (n : ℕ) (B : List ℕ) → n ≤ length B → Kept n B (over (table n (λ i. 0)) B)
+kept-clear n B h =
+    record {
+      long = length-over (table n (λ i. 0)) B (rw length-table h);
+      rest = table-behind (λ i. 0) n B;
+    }
+
+module _ (S : List ℕ) {l : Layout} (e : checkOf S ≡ good l) where
+  -- the check of a book: it has too little room, or it has room
+  by-room : (P : Outcome Layout → Type 0) (B : List ℕ) → P (refused 8 0) → (size l ≤ length B → P (good l)) → P (checkBook S (length B))
+  unfolding checkBook
+  by-room P B small roomy = rw e (go (ltb (length B) (size l)) refl)
+    where
+      go : (b : Bool) → ltb (length B) (size l) ≡ b → P (cond b (refused 8 0) (good l))
+      go true t = small
+      go false t = roomy (ltb-false _ _ t)
+
+  -- with room it is good
+  book-good : (B : List ℕ) → size l ≤ length B → checkBook S (length B) ≡ good l
+  unfolding checkBook
+  book-good B h = rw (e, le-ltb (length B) (size l) h)
+
+  -- a book that open takes has room
+  room : (B : List ℕ) → openAnswer S B ≡ good tt → size l ≤ length B
+  room B o = by-room (λ c. follow c (λ l. good tt) ≡ good tt → size l ≤ length B) B (λ q. absurd (refused-good q)) (λ h q. h) o
+
+  -- a record that is added has its cell inside the book
+  added-inside : (t : Totals) (R : List ℕ) → isAdded S l t R ≡ true → indexOf S l R + 3 ≤ size l
+  added-inside t R h = admitted-inside S l R (added S l R t h .passes)
+
+  -- open keeps the book past its cells
+  kept-open : (B : List ℕ) → Kept (size l) B (openBook S B)
+  kept-open B = by-room (λ c. Kept (size l) B (given c B (λ l. over (table (size l) (λ i. 0)) B))) B kept-same (kept-clear (size l) B)
+
+  -- so does a post to a book with room
+  kept-in : (B R : List ℕ) → size l ≤ length B → Kept (size l) B (bookIn S B R l)
+  kept-in B R h = go (isAdded S l t R) refl
+    where
+      t : Totals
+      t = cellAt B (indexOf S l R)
+
+      go : (b : Bool) → isAdded S l t R ≡ b → Kept (size l) B (cond b (withCell B (indexOf S l R) (plus t (totalsOf R))) B)
+      go true a = kept-cell (size l) B (indexOf S l R) (plus t (totalsOf R)) (added-inside t R a) h
+      go false a = kept-same
+
+  -- a post to any book
+  kept-post : (B R : List ℕ) → Kept (size l) B (postBook S B R)
+  kept-post B R = by-room (λ c. Kept (size l) B (given c B (bookIn S B R))) B kept-same (kept-in B R)
+
+  -- and a list of posts after open
+  kept-posted : (B : List ℕ) (rs : List (List ℕ)) → Kept (size l) B (posted S (openBook S B) rs)
+  unfolding posted
+  kept-posted B rs = fold-kept (Kept (size l) B) (postBook S) (λ B′ R k. kept-on k (kept-post B′ R)) (openBook S B) rs (kept-open B)
+
+  -- the cell of firm f, group g and day d, and where it stands
+  module _ (f g d : ℕ) (listed : f < l .firms) (placed : Placed (l .groups) g d) where
+    abbrev place : ℕ
+    place = index (l .groups) f g d
+
+    -- after a post of a record whose cell it is, it holds what the record makes of its totals
+    post-here : (B R : List ℕ) → size l ≤ length B → isAt S l f g d R ≡ true
+        → cellAt (bookIn S B R l) place ≡ accept S l f g d (cellAt B place) R
+    post-here B R h at =
+        let s = at-same S l f g d R at in
+        let there : indexOf S l R ≡ place = rw (s .firm, s .group, s .day) in
+        rw (there, at) (go (isAdded S l (cellAt B place) R))
+      where
+        sum : Totals
+        sum = plus (cellAt B place) (totalsOf R)
+
+        go : (b : Bool) → cellAt (cond b (withCell B place sum) B) place ≡ cond b sum (cellAt B place)
+        go true = cell-same B place sum (omega (arith, inside l f g d listed placed))
+        go false = refl
+
+    -- after a post of any other, what it held
+    post-other : (B R : List ℕ) → size l ≤ length B → isAt S l f g d R ≡ false → cellAt (bookIn S B R l) place ≡ cellAt B place
+    post-other B R h at = go (isAdded S l t R) refl
+      where
+        t : Totals
+        t = cellAt B (indexOf S l R)
+
+        go : (b : Bool) → isAdded S l t R ≡ b
+            → cellAt (cond b (withCell B (indexOf S l R) (plus t (totalsOf R))) B) place ≡ cellAt B place
+        go true a =
+            let own = added S l R t a .passes .placed in
+            cell-other B
+            ((f * l .groups + g) * 31 + d - 1)
+            ((firmOf S l R * l .groups + groupOf S l R) * 31 + day R - 1)
+            (plus t (totalsOf R))
+            (omega (arith, added-inside t R a))
+            (λ q. let s = same-cell (l .groups) (firmOf S l R) (groupOf S l R) (day R) f g d own placed (sym q) in
+            false≢true (sym at ∙ same-at S l f g d R s))
+        go false a = refl
+
+    -- a book with room whose cell holds t
+    record Holds (B : List ℕ) (t : Totals) : Type 0 where
+      long : size l ≤ length B
+      cell : cellAt B place ≡ t
+
+    -- after any post
+    holds-post : (B : List ℕ) (t : Totals) (R : List ℕ) → Holds B t → Holds (postBook S B R) (accept S l f g d t R)
+    holds-post B t R h =
+        record {
+          long = rw (kept-post B R .long) (h .long);
+          cell = rw (book-good B (h .long), ← h .cell) (go (isAt S l f g d R) refl);
+        }
+      where
+        go : (b : Bool) → isAt S l f g d R ≡ b → cellAt (bookIn S B R l) place ≡ accept S l f g d (cellAt B place) R
+        go true at = post-here B R (h .long) at
+        go false at = post-other B R (h .long) at ∙ rw at
+
+    -- after open it holds nothing
+    holds-open : (B : List ℕ) → size l ≤ length B → Holds (openBook S B) none
+    holds-open B h =
+        rw (book-good B h)
+        (record {
+          long = rw (kept-clear (size l) B h .long) h;
+          cell = totals-eq (zero place (omega arith)) (zero (place + 1) (omega arith)) (zero (place + 2) (omega arith));
+        })
+      where
+        zero : (i : ℕ) → i < place + 3 → getD (over (table (size l) (λ i. 0)) B) i 0 ≡ 0
+        zero i k = table-over (λ i. 0) (size l) i B 0 (omega (arith, inside l f g d listed placed))
+
+    -- and after a list the accepted totals
+    held-cell : (B : List ℕ) (rs : List (List ℕ)) → size l ≤ length B
+        → cellAt (posted S (openBook S B) rs) place ≡ accepted S rs f g d
+    unfolding posted
+    held-cell B rs h =
+        fold-keeps Holds (postBook S) (accept S l f g d) holds-post (openBook S B) none rs (holds-open B h) .cell
+        ∙ sym (accepted-fold S e rs f g d)
+
+  -- so a firm's cells are its accepted totals
+  held-cells : (B : List ℕ) (rs : List (List ℕ)) (f : ℕ) → size l ≤ length B → f < l .firms
+      → cells (l .groups) (posted S (openBook S B) rs) f ≡ accepted S rs f
+  held-cells B rs f h listed = fun-ext (λ g. fun-ext (λ d. go g d (ltb g (l .groups) && within 1 31 d) refl))
+    where
+      go : (g d : ℕ) (b : Bool) → (ltb g (l .groups) && within 1 31 d) ≡ b
+          → cond b (cellAt (posted S (openBook S B) rs) (index (l .groups) f g d)) none ≡ accepted S rs f g d
+      go g d true t =
+          let r = range 1 31 d (and-right (ltb g (l .groups)) (within 1 31 d) t) in
+          let below = ltb-true _ _ (and-left (ltb g (l .groups)) (within 1 31 d) t) in
+          held-cell f g d listed (record { group = below; first = r .least; last = r .most }) B rs h
+      go g d false t =
+          sym (accepted-none S e rs f g d
+          (λ p. false≢true (sym t ∙ rw (lt-ltb _ _ (p .group), in-range 1 31 d (p .first) (p .last)))))
+
+-- every law of specs/Laws.antt
+pub laws : (S : List ℕ) {l : Layout} → checkOf S ≡ good l → Laws S l
+laws S {l} e =
+    record {
+      held = λ B rs f o listed. held-cells S e B rs f (room S e B o) listed;
+      beyond = λ B rs. kept-posted S e B rs .rest;
+      kept = λ B rs. kept-posted S e B rs .long;
+      limited = accepted-fits S e;
+      own-only = λ C f ps qs c s. sym (accepted-own S e C f ps c) ∙ ap (λ rs. accepted S rs f) s ∙ accepted-own S e C f qs c;
+    }

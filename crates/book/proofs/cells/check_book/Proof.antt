@@ -1,0 +1,45 @@
+-- A refusal of the schedule stands; a good one leaves the book's size to be asked.
+-- Assumes nothing.
+use mathlib.Core.Path.{sym, ap, _∙_}
+use borrow.Author.Needs.{needs}
+use borrow.Author.Tests.{lt-ltb, le-ltb}
+use Rattle.schedule.specs.Check.{meaning}
+use Rattle.book.specs.Book.{checkBook}
+use Rattle.book.proofs.cells.check_book.Statement.{statement}
+use Rattle.book.proofs.cells.check_book.Tie as tie
+
+check-requires : tie.Need-check-requires
+check-requires c κs = search needs
+
+enum-known-number : tie.Need-enum-known-number
+enum-known-number c = search needs
+
+enum-known-l : tie.Need-enum-known-l
+enum-known-l c = search needs
+
+book-size-requires : tie.Need-book-size-requires
+book-size-requires c κs = search needs
+
+returns : tie.Need-returns
+unfolding checkBook
+returns c = rw (sym (c .before .before .before .before .before .check .ensures) ∙ ap meaning (c .before .before .before .l .given .1), rw (c .before .book-size .ensures) at (lt-ltb _ _ (c .if1 .taken)))
+
+returns-2 : tie.Need-returns-2
+unfolding checkBook
+returns-2 c = rw (sym (c .before .before .before .check .ensures) ∙ ap meaning (c .before .number .given .1))
+
+returns-3 : tie.Need-returns-3
+unfolding checkBook
+returns-3 c = rw (sym (c .before .before .before .before .before .check .ensures) ∙ ap meaning (c .before .before .before .l .given .1), rw (c .before .book-size .ensures) at (le-ltb _ _ (c .if1 .left)))
+
+pub check-book-spec : {M : Type 1} → statement M
+check-book-spec =
+    tie.close
+    (tie.spec
+    check-requires
+    enum-known-number
+    enum-known-l
+    book-size-requires
+    returns
+    returns-2
+    returns-3)

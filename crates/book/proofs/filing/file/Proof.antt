@@ -1,0 +1,41 @@
+-- The first table decides where it refuses, and then the record has 44 bytes; else the second does.
+-- Assumes nothing.
+use mathlib.Core.Path.{refl, sym, _∙_}
+use native.Mathlib.Omega.{arith}
+use lib.Dec.{eqb}
+use lib.ListN.{length}
+use denote.Ref.{now}
+use borrow.Author.Needs.{needs}
+use borrow.Author.Tests.{eqb-true, not-false}
+use Rattle.wire.proofs.Bools.{and-right}
+use Rattle.wire.proofs.Choose.{choose-first, choose-second, Passed, passed}
+use Rattle.schedule.specs.Lookup.{lengthAt}
+use Rattle.book.specs.Post.{formCauses, listCauses, recordCauses}
+use Rattle.book.proofs.Answers.{filed-same}
+use Rattle.book.proofs.filing.file.Statement.{statement}
+use Rattle.book.proofs.filing.file.Tie as tie
+
+-- past the return none of 11 to 13 refuses the record
+form-passed : (c : tie.Else1) → Passed (formCauses (now (c .before .before .before .before .args .«record»)))
+form-passed c = passed _ refl (sym (c .before .form-cause .ensures) ∙ c .if1 .left)
+
+form-cause-requires : tie.Need-form-cause-requires
+form-cause-requires c κs = search needs
+
+returns : tie.Need-returns
+returns c = record { first = choose-first _ _ (sym (c .before .form-cause .ensures)) (c .if1 .taken); some = omega (arith, c .if1 .taken) }
+
+file-listed-requires : tie.Need-file-listed-requires
+file-listed-requires c κs =
+    let R = now (c .before .before .before .before .args .«record») in
+    omega (arith, eqb-true (length R) 44 (and-right (eqb (lengthAt R 0) 44) (eqb (length R) 44) (not-false _ (form-passed c .1 .1 .0))))
+
+returns-2 : tie.Need-returns-2
+returns-2 c =
+    let a = c .before .before .before .before .before .args in
+    let S = now (a .schedule) in
+    let R = now (a .«record») in
+    filed-same S (a .l) R (listCauses S (a .l) R) (recordCauses S (a .l) R) (sym (choose-second (formCauses R) (listCauses S (a .l) R) (form-passed (c .before)))) (c .file-listed .result) (c .file-listed .ensures)
+
+pub file-spec : {M : Type 1} → statement M
+file-spec = tie.close (tie.spec form-cause-requires returns file-listed-requires returns-2)

@@ -1,0 +1,112 @@
+-- The tests on the way are the rows 16 and 17; the contract's status and the day then say whether the record is counted.
+-- Assumes nothing.
+use Prim.Native.Nat.{ℕ, _≤_}
+use mathlib.Core.Bool.{true, false, not, and-false}
+use mathlib.Core.List.{List}
+use mathlib.Core.Path.{_≡_, refl, sym, ap, _∙_}
+use native.Mathlib.Omega.{arith}
+use denote.Ref.{now}
+use borrow.Author.Needs.{needs}
+use borrow.Author.Tests.{not-false}
+use Rattle.wire.specs.Choose.{within}
+use Rattle.wire.proofs.Bools.{yes, no, range}
+use Rattle.wire.proofs.Choose.{here, next, done, chosen}
+use Rattle.schedule.specs.Calendar.{daysIn}
+use Rattle.schedule.specs.Counted.{statusMeaning, statusOf, contractListed, contractCounted}
+use Rattle.schedule.specs.declared.counted.Status.{Status}
+use Rattle.schedule.specs.declared.counted.Status.the-variants as kind
+use Rattle.schedule.proofs.Status.{isListed, isCounted, status-listed, status-counted}
+use Rattle.book.specs.Activity.{day, contract}
+use Rattle.book.specs.Post.{groupBody}
+use Rattle.book.proofs.filing.file_found.Statement.{statement}
+use Rattle.book.proofs.filing.file_found.Tie as tie
+
+-- from a place at which 16 was not met
+in-month : (c : tie.Else1) → let a = c .before .before .before .before .before .args in not (within 1 (daysIn (a .l .month)) (day (now (a .«record»)))) ≡ false
+in-month c = rw (c .before .before .byte-at .ensures, c .before .days-in .ensures) at (c .if1 .left)
+
+-- how the group takes the record's contract
+status : (c : tie.After-contract-status) → let a = c .before .before .before .before .before .before .before .args in statusMeaning (c .contract-status .result) ≡ statusOf (groupBody (now (a .schedule)) (a .l) (now (a .«record»))) (contract (now (a .«record»)))
+status c =
+    let p = c .before .before .before .before .before .before .before .pre in
+    rw (c .before .u16-at .ensures, p .offsetIs) at (c .contract-status .ensures)
+
+-- so whether it is listed and counted, where the status is k
+module _ (c : tie.After-contract-status) (k : Status) (e : c .contract-status .result ≡ k) where
+  abbrev body : List ℕ
+  body = let a = c .before .before .before .before .before .before .before .args in groupBody (now (a .schedule)) (a .l) (now (a .«record»))
+
+  abbrev month : ℕ
+  month = contract (now (c .before .before .before .before .before .before .before .args .«record»))
+
+  listed : contractListed body month ≡ isListed (statusMeaning k)
+  listed = sym (status-listed body month) ∙ ap isListed (sym (status c)) ∙ ap (λ s. isListed (statusMeaning s)) e
+
+  taken : isListed (statusMeaning k) ≡ true → contractCounted body month ≡ isCounted (statusMeaning k)
+  taken h = sym (status-counted body month (listed ∙ h)) ∙ ap isCounted (sym (status c)) ∙ ap (λ s. isCounted (statusMeaning s)) e
+
+byte-at-requires : tie.Need-byte-at-requires
+byte-at-requires c κs = search needs
+
+days-in-requires : tie.Need-days-in-requires
+days-in-requires c κs = search needs
+
+returns : tie.Need-returns
+returns c = record { first = chosen (here (rw (c .before .before .byte-at .ensures, c .before .days-in .ensures) at (c .if1 .taken))); some = omega arith }
+
+u16-at-requires : tie.Need-u16-at-requires
+u16-at-requires c κs = search needs
+
+contract-status-requires : tie.Need-contract-status-requires
+contract-status-requires c κs = search needs
+
+enum-told : tie.Need-enum-told
+enum-told c = search needs
+
+enum-told-2 : tie.Need-enum-told-2
+enum-told-2 c = search needs
+
+enum-told-3 : tie.Need-enum-told-3
+enum-told-3 c = search needs
+
+in-effect-requires : tie.Need-in-effect-requires
+in-effect-requires c κs = search needs
+
+returns-2 : tie.Need-returns-2
+returns-2 c = record { none = chosen (next (in-month (c .before .before .before .before .before .before)) (next (ap not (listed (c .before .before .before .before) kind.Counted (c .before .before .enum-told3 .given .1))) done)); counted = rw (rw (c .before .before .before .before .before .before .before .before .byte-at .ensures) at (no (c .before .in-effect .ensures) (c .if2 .taken))) refl }
+
+cell-index-requires : tie.Need-cell-index-requires
+cell-index-requires c κs =
+    let p = c .before .before .before .before .before .before .before .before .before .before .before .pre in
+    let f : c .before .before .before .before .before .before .before .before .before .before .before .args .l .firms ≤ 255 = search needs in
+    let g : c .before .before .before .before .before .before .before .before .before .before .before .args .l .groups ≤ 255 = search needs in
+    let d = range 1 _ _ (not-false _ (c .before .before .before .before .before .before .if1 .left)) in
+    (omega (arith, p .firmMost), omega (arith, p .groupMost), d .least)
+
+returns-3 : tie.Need-returns-3
+returns-3 c = record { first = chosen (next (in-month (c .before .before .before .before)) (here (ap not (listed (c .before .before) kind.Unlisted (c .enum-told .given .1))))); some = omega arith }
+
+returns-4 : tie.Need-returns-4
+returns-4 c = record { none = chosen (next (in-month (c .before .before .before .before)) (next (ap not (listed (c .before .before) kind.Listed (c .enum-told2 .given .1))) done)); counted = rw (taken (c .before .before) kind.Listed (c .enum-told2 .given .1) refl, and-false) refl }
+
+returns-5 : tie.Need-returns-5
+returns-5 c = (record { none = chosen (next (in-month (c .before .before .before .before .before .before .before)) (next (ap not (listed (c .before .before .before .before .before) kind.Counted (c .before .before .before .enum-told3 .given .1))) done)); counted = rw (rw (c .before .before .before .before .before .before .before .before .before .byte-at .ensures) at (yes (c .before .before .in-effect .ensures) (c .before .if2 .left)), taken (c .before .before .before .before .before) kind.Counted (c .before .before .before .enum-told3 .given .1) refl) refl }, rw (c .before .before .before .before .before .before .before .before .before .byte-at .ensures, c .before .before .before .before .before .before .before .before .before .before .before .before .pre .firmIs, c .before .before .before .before .before .before .before .before .before .before .before .before .pre .groupIs) at (c .cell-index .ensures))
+
+pub file-found-spec : {M : Type 1} → statement M
+file-found-spec =
+    tie.close
+    (tie.spec
+    byte-at-requires
+    days-in-requires
+    returns
+    u16-at-requires
+    contract-status-requires
+    enum-told
+    enum-told-2
+    enum-told-3
+    in-effect-requires
+    returns-2
+    cell-index-requires
+    returns-3
+    returns-4
+    returns-5)

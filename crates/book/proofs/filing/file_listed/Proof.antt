@@ -1,0 +1,98 @@
+-- A search that finds nothing is the row 14 or 15; what it finds is the first firm and group with the codes.
+-- Assumes nothing.
+use mathlib.Core.Bool.{not}
+use mathlib.Core.Path.{_≡_, refl, sym, ap, _∙_}
+use native.Mathlib.Omega.{arith}
+use lib.ListN.{drop}
+use denote.Ref.{now}
+use borrow.Author.Needs.{needs}
+use Rattle.wire.specs.Choose.{choose}
+use Rattle.wire.proofs.Choose.{here, next, chosen}
+use Rattle.schedule.specs.Lookup.{firmIs, firmListed, firmMeaning, groupIs, groupListed, groupMeaning, groupFound}
+use Rattle.schedule.proofs.Laws.{FoundAt, firm-found, firm-unlisted, group-found, group-placed, group-unlisted}
+use Rattle.book.specs.Post.{listCauses}
+use Rattle.book.specs.Activity.{firmCode, groupFirst, groupSecond}
+use Rattle.book.proofs.Answers.{filed-same}
+use Rattle.book.proofs.filing.file_listed.Statement.{statement}
+use Rattle.book.proofs.filing.file_listed.Tie as tie
+
+-- the firm and the group that were found
+firm : (c : tie.After-known-told) → let a = c .before .before .before .before .before .before .before .args in FoundAt (a .l .firms) (firmIs (now (a .schedule)) (a .l .start) (firmCode (now (a .«record»)))) (c .before .firm .given .0 .0)
+firm c = firm-found _ _ _ _ (sym (ap firmMeaning (c .before .firm .given .1)) ∙ c .before .before .before .find-firm .ensures)
+
+group-told : (c : tie.After-known-told2) → let a = c .before .before .before .before .before .before .before .before .before .before .before .before .before .args in groupMeaning (c .before .before .before .find-group .result) ≡ groupFound (now (a .schedule)) (a .l .groups) (groupFirst (now (a .«record»))) (groupSecond (now (a .«record»)))
+group-told c = rw (c .before .before .before .before .before .byte-at .ensures, c .before .before .before .before .byte-at2 .ensures) at (c .before .before .before .find-group .ensures)
+
+sub-find-firm : tie.Need-sub-find-firm
+sub-find-firm c = search needs
+
+part-find-firm-start : tie.Need-part-find-firm-start
+part-find-firm-start c = search needs
+
+part-find-firm-end : tie.Need-part-find-firm-end
+part-find-firm-end c = search needs
+
+find-firm-requires : tie.Need-find-firm-requires
+find-firm-requires c κs = search needs
+
+enum-told : tie.Need-enum-told
+enum-told c = search needs
+
+enum-known-firm : tie.Need-enum-known-firm
+enum-known-firm c = search needs
+
+byte-at-requires : tie.Need-byte-at-requires
+byte-at-requires c κs = search needs
+
+byte-at-requires-2 : tie.Need-byte-at-requires-2
+byte-at-requires-2 c κs = search needs
+
+find-group-requires : tie.Need-find-group-requires
+find-group-requires c κs = search needs
+
+enum-told-2 : tie.Need-enum-told-2
+enum-told-2 c = search needs
+
+enum-known-index : tie.Need-enum-known-index
+enum-known-index c = search needs
+
+file-found-requires : tie.Need-file-found-requires
+file-found-requires c κs = let g = sym (ap groupMeaning (c .before .index .given .1)) ∙ group-told c in let f = firm (c .before .before .before .before .before .before) in let h = group-found _ _ _ _ g in record { firmIs = sym (f .first); groupIs = sym (h .first); offsetIs = ap (λ p. p .offset) (group-placed _ _ _ _ g); firmMost = f .inside; groupMost = h .inside }
+
+returns : tie.Need-returns
+returns c = record { first = chosen (here (ap not (firm-unlisted _ _ _ _ (sym (ap firmMeaning (c .enum-told .given .1)) ∙ c .before .before .find-firm .ensures)))); some = omega arith }
+
+returns-2 : tie.Need-returns-2
+unfolding firmListed
+returns-2 c = record { first = chosen (next (ap not (firm (c .before .before .before .before .before) .listed)) (here (ap not (group-unlisted _ _ _ _ (sym (ap groupMeaning (c .enum-told2 .given .1)) ∙ rw (c .before .before .before .before .byte-at .ensures, c .before .before .before .byte-at2 .ensures) at (c .before .before .find-group .ensures)))))); some = omega arith }
+
+returns-3 : tie.Need-returns-3
+unfolding firmListed groupListed choose
+returns-3 c =
+    let a = c .before .before .before .before .before .before .before .before .before .before .before .before .before .before .args in
+    let S = now (a .schedule) in
+    let R = now (a .«record») in
+    let f = ap not (firm (c .before .before .before .before .before .before .before) .listed) in
+    let g = ap not (group-found S (a .l .groups) (groupFirst R) (groupSecond R) (sym (ap groupMeaning (c .before .before .index .given .1)) ∙ group-told (c .before)) .listed) in
+    let same : choose (listCauses S (a .l) R) 0 ≡ choose (drop 2 (listCauses S (a .l) R)) 0 = rw (f, g) refl in
+    filed-same S (a .l) R (drop 2 (listCauses S (a .l) R)) (listCauses S (a .l) R) (sym same) (c .file-found .result) (c .file-found .ensures)
+
+pub file-listed-spec : {M : Type 1} → statement M
+file-listed-spec =
+    tie.close
+    (tie.spec
+    sub-find-firm
+    part-find-firm-start
+    part-find-firm-end
+    find-firm-requires
+    enum-told
+    enum-known-firm
+    byte-at-requires
+    byte-at-requires-2
+    find-group-requires
+    enum-told-2
+    enum-known-index
+    file-found-requires
+    returns
+    returns-2
+    returns-3)

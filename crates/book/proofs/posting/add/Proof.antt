@@ -1,0 +1,59 @@
+-- Where every total has room, no sum is above the limit, so none wraps; else the book is left alone.
+-- Assumes nothing.
+use native.Mathlib.Omega.{arith}
+use borrow.Author.Needs.{needs}
+use Rattle.wire.proofs.Bools.{yes, no}
+use Rattle.rules.proofs.Verdict.{Fitting, fitting}
+use Rattle.book.specs.Post.{plus}
+use Rattle.book.proofs.posting.add.Statement.{statement}
+use Rattle.book.proofs.posting.add.Tie as tie
+
+cell-at-requires : tie.Need-cell-at-requires
+cell-at-requires c κs = search needs
+
+can-add-requires : tie.Need-can-add-requires
+can-add-requires c κs = search needs
+
+same-length : tie.Need-same-length
+same-length c = search needs
+
+returns : tie.Need-returns
+returns c = let e = rw (c .before .before .cell-at .ensures) at (no (c .before .can-add .ensures) (c .if1 .taken)) in record { answer = rw e; book = rw e }
+
+-- where the totals may grow, no sum is above the limit
+fits-in : (c : tie.Else1) → Fitting 1 (plus (c .before .before .cell-at .result) (c .before .before .before .before .before .args .more))
+fits-in c =
+    fitting 1 (plus (c .before .before .cell-at .result) (c .before .before .before .before .before .args .more)) (yes (c .before .can-add .ensures) (c .if1 .left))
+
+add-t10 : tie.Need-add-t10
+add-t10 c = omega (arith, fits-in (c .before .before) .raw)
+
+add-t11 : tie.Need-add-t11
+add-t11 c = omega (arith, fits-in (c .before .before .before .before) .score)
+
+add-t12 : tie.Need-add-t12
+add-t12 c = omega (arith, fits-in (c .before .before .before .before .before .before) .lots)
+
+store-cell-requires : tie.Need-store-cell-requires
+store-cell-requires c κs = search needs
+
+same-length-2 : tie.Need-same-length-2
+same-length-2 c = search needs
+
+returns-2 : tie.Need-returns-2
+returns-2 c = let e = rw (c .before .before .before .before .before .before .before .before .before .before .before .before .cell-at .ensures) at (yes (c .before .before .before .before .before .before .before .before .before .before .before .can-add .ensures) (c .before .before .before .before .before .before .before .before .before .before .if1 .left)) in record { answer = rw e; book = rw e (rw (c .before .before .before .before .before .before .before .before .before .before .before .before .cell-at .ensures) at (c .before .before .store-cell .ensures)) }
+
+pub add-spec : {M : Type 1} → statement M
+add-spec =
+    tie.close
+    (tie.spec
+    cell-at-requires
+    can-add-requires
+    same-length
+    returns
+    add-t10
+    add-t11
+    add-t12
+    store-cell-requires
+    same-length-2
+    returns-2)

@@ -1,0 +1,57 @@
+-- Each way that the schedule takes a record is one of the answers; a record to be added has its cell inside the book.
+-- Assumes nothing.
+use mathlib.Core.Path.{refl}
+use native.Mathlib.Omega.{arith}
+use denote.Ref.{now}
+use borrow.Author.Needs.{needs}
+use Rattle.wire.proofs.Choose.{passed}
+use Rattle.book.proofs.Checked.{sized}
+use Rattle.book.proofs.Admitted.{admitted, admitted-inside}
+use Rattle.book.proofs.Answers.{stopped, passed-over, added}
+use Rattle.book.proofs.posting.post_in.Statement.{statement}
+use Rattle.book.proofs.posting.post_in.Tie as tie
+
+file-requires : tie.Need-file-requires
+file-requires c κs = search needs
+
+enum-known-number : tie.Need-enum-known-number
+enum-known-number c = search needs
+
+enum-told : tie.Need-enum-told
+enum-told c = search needs
+
+enum-known-at : tie.Need-enum-known-at
+enum-known-at c = search needs
+
+totals-of-requires : tie.Need-totals-of-requires
+totals-of-requires c κs = search needs
+
+add-requires : tie.Need-add-requires
+add-requires c κs = let a = c .before .before .before .before .before .before .before .before .before .args in let t = rw (c .before .before .before .at .given .1) at (c .before .before .before .before .before .file .ensures) in rw (t .1) (omega (arith, admitted-inside (now (a .schedule)) (a .l) (now (a .«record»)) (admitted _ _ _ (passed _ refl (t .0 .none))), sized _ _ (c .before .before .before .before .before .before .before .before .before .pre) .room))
+
+returns : tie.Need-returns
+returns c = stopped _ _ _ (c .before .before .before .before .before .before .before .pre) (rw (c .before .number .given .1) at (c .before .before .before .file .ensures))
+
+returns-2 : tie.Need-returns-2
+returns-2 c = passed-over _ _ _ (c .before .before .before .before .before .before .pre) (rw (c .enum-told .given .1) at (c .before .before .file .ensures))
+
+same-length : tie.Need-same-length
+same-length c = search needs
+
+returns-3 : tie.Need-returns-3
+returns-3 c = let t = rw (c .before .before .before .before .before .before .at .given .1) at (c .before .before .before .before .before .before .before .before .file .ensures) in added _ _ _ (c .before .before .before .before .before .before .before .before .before .before .before .before .pre) (t .0) (t .1) (rw (c .before .before .before .totals-of .ensures) at (c .before .before .add .ensures))
+
+pub post-in-spec : {M : Type 1} → statement M
+post-in-spec =
+    tie.close
+    (tie.spec
+    file-requires
+    enum-known-number
+    enum-told
+    enum-known-at
+    totals-of-requires
+    add-requires
+    returns
+    returns-2
+    same-length
+    returns-3)

@@ -1,0 +1,47 @@
+-- Lists of posts: accepted totals, a firm's own posts, and the book after a list (document 01, "The book and its calls", on demand 3).
+-- S is the schedule, rs the list of posted records, each any bytes.
+-- Assumes nothing.
+use Prim.Native.Nat.{ℕ}
+use mathlib.Core.Bool.{Bool, cond, _&&_}
+use mathlib.Core.List.{List, [], _∷_, foldl}
+use lib.Dec.{eqb}
+use Rattle.wire.specs.Choose.{choose}
+use Rattle.rules.specs.Month.{Cells}
+use Rattle.rules.specs.declared.Totals.{Totals}
+use Rattle.schedule.specs.Lookup.{firmHas}
+use Rattle.schedule.specs.Check.{given, checkOf}
+use Rattle.schedule.specs.declared.scan.Layout.{Layout}
+use Rattle.book.specs.Activity.{day, totalsOf}
+use Rattle.book.specs.Book.{none}
+use Rattle.book.specs.Post.{plus, formCauses, firmOf, groupOf, isAdded, postBook}
+
+module _ (S : List ℕ) (l : Layout) (f g d : ℕ) where
+  -- the record's cell is that of firm f, group g and day d
+  abbrev pub isAt : (R : List ℕ) → Bool
+  isAt R = eqb (firmOf S l R) f && (eqb (groupOf S l R) g && eqb (day R) d)
+
+  -- Accepted totals: a record adds its own to its cell's when its day is in effect, its contract is counted and no cause that concerns a
+  -- posted record refuses it, 18 being asked of these totals; every other record adds nothing
+  abbrev pub accept : Totals → (R : List ℕ) → Totals
+  accept t R = cond (isAt R && isAdded S l t R) (plus t (totalsOf R)) t
+
+-- Accepted totals of a firm's cells, from the schedule and the list alone: raw, score and lots start at 0
+unfoldable pub accepted : (S : List ℕ) → (rs : List (List ℕ)) → (f : ℕ) → Cells
+accepted S rs f g d = given (checkOf S) none (λ l. foldl (accept S l f g d) none rs)
+
+-- the items of a list that pass a test, in their order
+unfoldable pub keep : {A : Type 0} → (A → Bool) → List A → List A
+keep p [] = []
+keep p (a ∷ rest) = cond (p a) (a ∷ keep p rest) (keep p rest)
+
+-- A firm's own posts: the records that 11 to 13 don't refuse and that carry its code C at 4
+abbrev pub isOwn : (C R : List ℕ) → Bool
+isOwn C R = eqb (choose (formCauses R) 0) 0 && firmHas R 0 C
+
+-- whether refused later or not, in their order
+abbrev pub own : (C : List ℕ) → (rs : List (List ℕ)) → List (List ℕ)
+own C rs = keep (isOwn C) rs
+
+-- the book after a list: each post takes the book as the one before left it
+unfoldable pub posted : (S B : List ℕ) → (rs : List (List ℕ)) → List ℕ
+posted S B rs = foldl (postBook S) B rs

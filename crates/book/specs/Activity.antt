@@ -1,0 +1,65 @@
+-- An activity record's fields, and what it adds to its cell (document 01, "Records", kind 4, and "The day's verdict"). R is the whole record.
+-- Assumes nothing.
+use Prim.Native.Nat.{ℕ, _+_, _*_}
+use mathlib.Core.List.{List}
+use lib.ListN.{getD, take, drop}
+use Rattle.wire.specs.Bytes.{u16At, u32At}
+use Rattle.rules.specs.declared.Totals.{Totals}
+
+-- Records, kind 4: firm at 4
+abbrev pub firmCode : (R : List ℕ) → List ℕ
+firmCode R = take 3 (drop 4 R)
+
+-- Records, kind 4: day u8 at 7
+abbrev pub day : (R : List ℕ) → ℕ
+day R = getD R 7 0
+
+-- Records, kind 4: group at 8
+abbrev pub groupFirst : (R : List ℕ) → ℕ
+groupFirst R = getD R 8 0
+
+abbrev pub groupSecond : (R : List ℕ) → ℕ
+groupSecond R = getD R 9 0
+
+-- Records, kind 4: contract u16 at 10
+abbrev pub contract : (R : List ℕ) → ℕ
+contract R = u16At R 10
+
+-- Records, kind 4: u32 each from 12, new orders, modifications, cancellations, FAK/FOK, mass action requests, mass action reports,
+-- minimum-quantity orders, lots
+abbrev pub newOrders : (R : List ℕ) → ℕ
+newOrders R = u32At R 12
+
+abbrev pub modifications : (R : List ℕ) → ℕ
+modifications R = u32At R 16
+
+abbrev pub cancellations : (R : List ℕ) → ℕ
+cancellations R = u32At R 20
+
+abbrev pub fakFok : (R : List ℕ) → ℕ
+fakFok R = u32At R 24
+
+abbrev pub massRequests : (R : List ℕ) → ℕ
+massRequests R = u32At R 28
+
+abbrev pub massReports : (R : List ℕ) → ℕ
+massReports R = u32At R 32
+
+abbrev pub minimumQuantity : (R : List ℕ) → ℕ
+minimumQuantity R = u32At R 36
+
+abbrev pub lots : (R : List ℕ) → ℕ
+lots R = u32At R 40
+
+-- The day's verdict: new orders + modifications + cancellations + FAK/FOK orders; mass actions are not in it
+abbrev pub rawCount : (R : List ℕ) → ℕ
+rawCount R = newOrders R + modifications R + cancellations R + fakFok R
+
+-- The day's verdict: modifications + 3 × (cancellations + FAK/FOK orders + mass action requests + mass action reports); minimum-quantity
+-- orders score nothing
+abbrev pub score : (R : List ℕ) → ℕ
+score R = modifications R + 3 * (cancellations R + fakFok R + massRequests R + massReports R)
+
+-- what the record adds to its cell
+unfoldable pub totalsOf : (R : List ℕ) → Totals
+totalsOf R = record { raw = rawCount R; score = score R; lots = lots R }

@@ -1,0 +1,56 @@
+-- A computed example of posts: the schedule of document 01's whole run (October 2019, every day in effect but the second, ES, firm ABC), and
+-- records whose counts are all different, so that a count read in the place of another would show.
+-- Assumes nothing.
+use Prim.Native.Nat.{ℕ}
+use mathlib.Core.List.{List, [], _∷_, _++_}
+use mathlib.Core.Path.{_≡_, refl}
+use Rattle.wire.specs.Bytes.{u16At, u32At, u16Bytes, u32Bytes}
+use Rattle.wire.specs.Choose.{choose, all, seekIn}
+use Rattle.wire.specs.Lists.{joined, table, over}
+use Rattle.wire.specs.Sums.{sum}
+use Rattle.schedule.specs.Calendar.{daysIn}
+use Rattle.schedule.specs.Counted.{contractListed, contractCounted, inFront, isAfter, isCounted, contractIs}
+use Rattle.schedule.specs.Fields.{isCode, headOk, listed, contract, before, contractBad, contractsOk, groupOk, firmOk}
+use Rattle.schedule.specs.Lookup.{groupStart, groupIs, firmIs, groupListed, firmListed}
+use Rattle.schedule.specs.Check.{Outcome, refused, good, byKind, isDue, lengthOk, isFull, fieldsOk, isRepeated, cause as recordCause, after, ending, scan, checkOf}
+use Rattle.book.specs.Activity.{totalsOf}
+use Rattle.book.specs.Book.{none, checkBook, openBook}
+use Rattle.book.specs.Post.{Effect, outside, counted, cause, postAnswer, postBook}
+use Rattle.book.specs.Accepted.{accepted, posted}
+
+-- a head: October 2019 with day 2 not in effect; a group: ES; a firm: ABC
+abbrev schedule : List ℕ
+schedule =
+    u16Bytes 10 ++ u16Bytes 1 ++ u16Bytes 24237 ++ u32Bytes 2
+    ++ (u16Bytes 18 ++ u16Bytes 2 ++ (69 ∷ 83 ∷ 1 ∷ 64 ∷ []) ++ u32Bytes 1000 ++ u16Bytes 4095 ++ u16Bytes 0 ++ u16Bytes 24239)
+    ++ (u16Bytes 7 ++ u16Bytes 3 ++ (65 ∷ 66 ∷ 67 ∷ []))
+
+-- a record of ABC in ES: of each count the next power of ten, lots last
+abbrev activity : (day contract : ℕ) → List ℕ
+activity day contract =
+    u16Bytes 44 ++ u16Bytes 4 ++ (65 ∷ 66 ∷ 67 ∷ day ∷ 69 ∷ 83 ∷ []) ++ u16Bytes contract
+    ++ u32Bytes 1 ++ u32Bytes 10 ++ u32Bytes 100 ++ u32Bytes 1000 ++ u32Bytes 10000 ++ u32Bytes 100000 ++ u32Bytes 1000000 ++ u32Bytes 10000000
+
+-- day 1 twice, day 2 between, then day 32, an unlisted contract, and a record of two bytes
+abbrev posts : List (List ℕ)
+posts = activity 1 24239 ∷ activity 2 24239 ∷ activity 1 24239 ∷ activity 32 24239 ∷ activity 1 24240 ∷ (44 ∷ 0 ∷ []) ∷ []
+
+-- the answers to a list, each post taking the book as the one before left it
+abbrev answers : (B : List ℕ) → (rs : List (List ℕ)) → List (Outcome Effect)
+answers B [] = []
+answers B (R ∷ rs) = postAnswer schedule B R ∷ answers (postBook schedule B R) rs
+
+-- a book of 94 numbers, opened
+abbrev book : List ℕ
+book = openBook schedule (table 94 (λ i. 7))
+
+pub record Example : Type 0 where
+  pub answered : answers book posts ≡ good counted ∷ good outside ∷ good counted ∷ refused 16 0 ∷ refused 17 0 ∷ refused 11 0 ∷ []
+  -- raw 1 + 10 + 100 + 1,000 and score 10 + 3 × (100 + 1,000 + 10,000 + 100,000), each twice
+  pub accepts : accepted schedule posts 0 0 1 ≡ record { raw = 2222; score = 666620; lots = 20000000 }
+  pub passes : accepted schedule posts 0 0 2 ≡ none
+  pub holds : posted schedule book posts ≡ over (2222 ∷ 666620 ∷ 20000000 ∷ []) book
+
+pub example : Example
+unfolding accepted posted checkBook checkOf scan ending after recordCause cause isRepeated fieldsOk isFull lengthOk isDue byKind firmListed groupListed firmIs groupIs groupStart firmOk groupOk contractsOk contractBad before contract listed headOk isCode contractIs isCounted isAfter inFront contractCounted contractListed daysIn sum joined seekIn all choose u32At u16At totalsOf
+example = record { answered = refl; accepts = refl; passes = refl; holds = refl }

@@ -1,0 +1,73 @@
+// Where the cells stand in the book, and how many numbers it needs.
+use rules::Totals;
+use schedule::Checked;
+use schedule::Layout;
+use schedule::check;
+ghost use mathlib.Core.Path.{_≡_};
+ghost use Prim.Native.Nat.{_+_, _^_, _≤_, _<_};
+ghost use lib.ListN.{length, getD};
+ghost use Rattle.schedule.specs.Check.{meaning};
+ghost use Rattle.book.specs.Book.{size, index, cellAt, withCell, checkBook};
+
+// How many numbers a book needs.
+pub(crate) fn book_size(l: Layout) -> usize
+    ensures { λ r. ⌜ r ≡ size l ⌝ }
+{
+    93 * (l.groups as usize) * (l.firms as usize)
+}
+
+// Where a cell's three numbers start: firm and group counted from 0, the day from 1.
+pub(crate) fn cell_index(groups: u8, firm: usize, group: usize, day: u8) -> usize
+    requires { ⌜ (firm < 256) × (group < 256) × (1 ≤ day) ⌝ }
+    ensures { λ r. ⌜ r ≡ index groups firm group day ⌝ }
+{
+    let row = firm * (groups as usize) + group;
+    (row * 31 + (day as usize) - 1) * 3
+}
+
+// A number of the book, 0 past its end.
+fn number_at(book: &[u64], i: usize) -> u64
+    ensures { λ r. ⌜ r ≡ getD (now (book .entry)) i 0 ⌝ }
+{
+    if i < book.len() { book[i] } else { 0 }
+}
+
+// The totals of the cell at a place.
+pub(crate) fn cell_at(book: &[u64], at: usize) -> Totals
+    requires { ⌜ at < 2 ^ 60 ⌝ }
+    ensures { λ r. ⌜ r ≡ cellAt (now (book .entry)) at ⌝ }
+{
+    Totals {
+        raw: number_at(book, at),
+        score: number_at(book, at + 1),
+        lots: number_at(book, at + 2),
+    }
+}
+
+// Puts totals into the cell at a place.
+pub(crate) fn store_cell(book: &mut [u64], at: usize, t: Totals)
+    requires { ⌜ at + 3 ≤ length (now book) ⌝ }
+    ensures { λ _. ⌜ now (book .exit) ≡ withCell (now (book .entry)) at t ⌝ }
+{
+    book[at] = t.raw;
+    book[at + 1] = t.score;
+    book[at + 2] = t.lots;
+}
+
+// The schedule and the size of a book: refusals 1 to 8, or what the schedule holds.
+pub(crate) fn check_book(schedule: &[u8], numbers: usize) -> Checked
+    ensures { λ r. ⌜ meaning r ≡ checkBook (now (schedule .entry)) numbers ⌝ }
+{
+    match check(schedule) {
+        Checked::Refused { number, offset } => Checked::Refused { number, offset },
+        Checked::Good(l) => {
+            if numbers < book_size(l) {
+                return Checked::Refused {
+                    number: 8,
+                    offset: 0,
+                };
+            }
+            Checked::Good(l)
+        }
+    }
+}

@@ -1,0 +1,103 @@
+// How the schedule takes a record: refused, outside, or at a place of the book.
+use crate::cells::cell_index;
+use schedule::FoundFirm;
+use schedule::FoundGroup;
+use schedule::Layout;
+use schedule::Status;
+use schedule::contract_status;
+use schedule::days_in;
+use schedule::find_firm;
+use schedule::find_group;
+use schedule::in_effect;
+use wire::byte_at;
+use wire::u16_at;
+ghost use mathlib.Core.Path.{_≡_};
+ghost use Prim.Native.Nat.{_≤_};
+ghost use lib.ListN.{length, drop};
+ghost use Rattle.wire.specs.Choose.{choose};
+ghost use Rattle.book.specs.Post.{formCauses, listCauses, recordCauses};
+ghost use Rattle.book.specs.Filing.{FoundIs, FiledIs};
+
+pub(crate) enum Filed {
+    Refused(u8),
+    Outside,
+    At(usize),
+}
+
+// The first of 11 to 13 that refuses a record, 0 where none does.
+fn form_cause(record: &[u8]) -> u8
+    ensures { λ r. ⌜ r ≡ choose (formCauses (now («record» .entry))) 0 ⌝ }
+{
+    if record.len() < 4 {
+        return 11;
+    }
+    if u16_at(record, 2) != 4 {
+        return 12;
+    }
+    if (u16_at(record, 0) == 44) & (record.len() == 44) {
+        return 0;
+    }
+    13
+}
+
+// Refusals 16 and 17, and whether the record is counted, where its firm and its group were found.
+fn file_found(
+    schedule: &[u8],
+    l: Layout,
+    record: &[u8],
+    firm: usize,
+    group: usize,
+    offset: usize,
+) -> Filed
+    requires { ⌜ FoundIs (now schedule) l (now «record») firm group offset ⌝ }
+    ensures { λ r. ⌜ FiledIs (now (schedule .entry)) l (now («record» .entry)) (drop 2 (listCauses (now (schedule .entry)) l (now («record» .entry)))) r ⌝ }
+{
+    let day = byte_at(record, 7);
+    if !((1 <= day) & (day <= days_in(l.month))) {
+        return Filed::Refused(16);
+    }
+    match contract_status(schedule, offset, u16_at(record, 10)) {
+        Status::Unlisted => Filed::Refused(17),
+        Status::Listed => Filed::Outside,
+        Status::Counted => {
+            if !in_effect(l.month, l.closed, day) {
+                return Filed::Outside;
+            }
+            Filed::At(cell_index(l.groups, firm, group, day))
+        }
+    }
+}
+
+// Refusals 14 to 17, and whether the record is counted.
+fn file_listed(schedule: &[u8], l: Layout, record: &[u8]) -> Filed
+    requires { ⌜ 7 ≤ length (now «record») ⌝ }
+    ensures { λ r. ⌜ FiledIs (now (schedule .entry)) l (now («record» .entry)) (listCauses (now (schedule .entry)) l (now («record» .entry))) r ⌝ }
+{
+    match find_firm(schedule, l.start, l.firms, &record[4..7]) {
+        FoundFirm::Nothing => Filed::Refused(14),
+        FoundFirm::At(firm) => match find_group(
+            schedule,
+            l.groups,
+            byte_at(record, 8),
+            byte_at(record, 9),
+        ) {
+            FoundGroup::Nothing => Filed::Refused(15),
+            FoundGroup::At {
+                index,
+                offset,
+                fields: _,
+            } => file_found(schedule, l, record, firm, index, offset),
+        },
+    }
+}
+
+// How the schedule takes a record: refusals 11 to 17, outside, or where its cell stands.
+pub(crate) fn file(schedule: &[u8], l: Layout, record: &[u8]) -> Filed
+    ensures { λ r. ⌜ FiledIs (now (schedule .entry)) l (now («record» .entry)) (recordCauses (now (schedule .entry)) l (now («record» .entry))) r ⌝ }
+{
+    let number = form_cause(record);
+    if number != 0 {
+        return Filed::Refused(number);
+    }
+    file_listed(schedule, l, record)
+}

@@ -1,0 +1,86 @@
+// Posting a record to the book.
+use crate::activity::totals_of;
+use crate::cells::cell_at;
+use crate::cells::check_book;
+use crate::cells::store_cell;
+use crate::filing::Filed;
+use crate::filing::file;
+use rules::LIMIT;
+use rules::Totals;
+use schedule::Checked;
+use schedule::Layout;
+ghost use mathlib.Core.Path.{_≡_};
+ghost use Prim.Native.Nat.{_+_, _≤_};
+ghost use lib.Dec.{leb};
+ghost use lib.ListN.{length};
+ghost use Rattle.rules.specs.Verdict.{limit, fits};
+ghost use Rattle.schedule.specs.Check.{good};
+ghost use Rattle.book.specs.Book.{checkBook};
+ghost use Rattle.book.specs.Post.{plus, PostIs};
+ghost use Rattle.book.specs.Filing.{AddIs};
+
+pub enum Posted {
+    Refused { number: u8, offset: usize },
+    Outside,
+    Counted,
+}
+
+// Whether a total may grow by so much.
+fn has_room(held: u64, more: u64) -> bool
+    ensures { λ r. ⌜ r ≡ leb (held + more) limit ⌝ }
+{
+    if LIMIT < held {
+        return false;
+    }
+    more <= LIMIT - held
+}
+
+// Whether every total of a cell may grow by so much.
+fn can_add(held: Totals, more: Totals) -> bool
+    ensures { λ r. ⌜ r ≡ fits 1 (plus held more) ⌝ }
+{
+    has_room(held.raw, more.raw) & has_room(held.score, more.score) & has_room(held.lots, more.lots)
+}
+
+// Adds to the cell at a place, unless a total would be above the limit.
+fn add(book: &mut [u64], at: usize, more: Totals) -> Posted
+    requires { ⌜ at + 3 ≤ length (now book) ⌝ }
+    ensures { λ r. ⌜ AddIs (now (book .entry)) at more r (now (book .exit)) ⌝ }
+{
+    let held = cell_at(book, at);
+    if !can_add(held, more) {
+        return Posted::Refused {
+            number: 18,
+            offset: 0,
+        };
+    }
+    let sum = Totals {
+        raw: held.raw + more.raw,
+        score: held.score + more.score,
+        lots: held.lots + more.lots,
+    };
+    store_cell(book, at, sum);
+    Posted::Counted
+}
+
+// A post to a book that has the numbers that the schedule asks for.
+fn post_in(schedule: &[u8], l: Layout, book: &mut [u64], record: &[u8]) -> Posted
+    requires { ⌜ checkBook (now schedule) (length (now book)) ≡ good l ⌝ }
+    ensures { λ r. ⌜ PostIs (now (schedule .entry)) (now (book .entry)) (now («record» .entry)) r (now (book .exit)) ⌝ }
+{
+    match file(schedule, l, record) {
+        Filed::Refused(number) => Posted::Refused { number, offset: 0 },
+        Filed::Outside => Posted::Outside,
+        Filed::At(at) => add(book, at, totals_of(record)),
+    }
+}
+
+// Posts one activity record: it adds to its cell, or is outside, or is refused; the book changes only where it adds.
+pub fn post(schedule: &[u8], book: &mut [u64], record: &[u8]) -> Posted
+    ensures { λ r. ⌜ PostIs (now (schedule .entry)) (now (book .entry)) (now («record» .entry)) r (now (book .exit)) ⌝ }
+{
+    match check_book(schedule, book.len()) {
+        Checked::Refused { number, offset } => Posted::Refused { number, offset },
+        Checked::Good(l) => post_in(schedule, l, book, record),
+    }
+}
