@@ -33,11 +33,11 @@ formCauses R =
     ∷ []
 
 module _ (S : List ℕ) (l : Layout) where
-  -- the place of the record's firm, from 0
+  -- the place of the record's firm, from 0; past the last, where it is unlisted
   abbrev pub firmOf : (R : List ℕ) → ℕ
   firmOf R = seek 0 (l .firms) (firmIs S (l .start) (firmCode R))
 
-  -- the place of its group, from 0
+  -- the place of its group, likewise
   abbrev pub groupOf : (R : List ℕ) → ℕ
   groupOf R = seek 0 (l .groups) (groupIs S (groupFirst R) (groupSecond R))
 
@@ -101,10 +101,11 @@ module _ (S B R : List ℕ) where
       let t = cellAt B (indexOf S l R) in
       cond (isAdded S l t R) (withCell B (indexOf S l R) (plus t (totalsOf R))) B
 
-  -- a post, after 1 to 8
+  -- Post, after 1 to 8
   abbrev pub postAnswer : Outcome Effect
   postAnswer = follow (checkBook S (length B)) answerIn
 
+  -- on a refusal every buffer is unchanged
   abbrev pub postBook : List ℕ
   postBook = given (checkBook S (length B)) B bookIn
 
