@@ -22,7 +22,9 @@ book-size-requires c κs = search needs
 
 returns : tie.Need-returns
 unfolding checkBook
-returns c = rw (sym (c .before .before .before .before .before .check .ensures) ∙ ap meaning (c .before .before .before .l .given .1), rw (c .before .book-size .ensures) at (lt-ltb _ _ (c .if1 .taken)))
+returns c =
+    let e = sym (c .before .before .before .before .before .check .ensures) ∙ ap meaning (c .before .before .before .l .given .1) in
+    rw (e, rw (c .before .book-size .ensures) at (lt-ltb _ _ (c .if1 .taken)))
 
 returns-2 : tie.Need-returns-2
 unfolding checkBook
@@ -30,7 +32,9 @@ returns-2 c = rw (sym (c .before .before .before .check .ensures) ∙ ap meaning
 
 returns-3 : tie.Need-returns-3
 unfolding checkBook
-returns-3 c = rw (sym (c .before .before .before .before .before .check .ensures) ∙ ap meaning (c .before .before .before .l .given .1), rw (c .before .book-size .ensures) at (le-ltb _ _ (c .if1 .left)))
+returns-3 c =
+    let e = sym (c .before .before .before .before .before .check .ensures) ∙ ap meaning (c .before .before .before .l .given .1) in
+    rw (e, rw (c .before .book-size .ensures) at (le-ltb _ _ (c .if1 .left)))
 
 pub check-book-spec : {M : Type 1} → statement M
 check-book-spec =

@@ -35,7 +35,8 @@ returns-2 c =
     let a = c .before .before .before .before .before .args in
     let S = now (a .schedule) in
     let R = now (a .«record») in
-    filed-same S (a .l) R (listCauses S (a .l) R) (recordCauses S (a .l) R) (sym (choose-second (formCauses R) (listCauses S (a .l) R) (form-passed (c .before)))) (c .file-listed .result) (c .file-listed .ensures)
+    let same = choose-second (formCauses R) (listCauses S (a .l) R) (form-passed (c .before)) in
+    filed-same S (a .l) R (listCauses S (a .l) R) (recordCauses S (a .l) R) (sym same) (c .file-listed .result) (c .file-listed .ensures)
 
 pub file-spec : {M : Type 1} → statement M
 file-spec = tie.close (tie.spec form-cause-requires returns file-listed-requires returns-2)

@@ -52,7 +52,11 @@ days-in-requires : tie.Need-days-in-requires
 days-in-requires c κs = search needs
 
 returns : tie.Need-returns
-returns c = record { first = chosen (here (rw (c .before .before .byte-at .ensures, c .before .days-in .ensures) at (c .if1 .taken))); some = omega arith }
+returns c =
+    record {
+      first = chosen (here (rw (c .before .before .byte-at .ensures, c .before .days-in .ensures) at (c .if1 .taken)));
+      some = omega arith;
+    }
 
 u16-at-requires : tie.Need-u16-at-requires
 u16-at-requires c κs = search needs
@@ -73,7 +77,11 @@ in-effect-requires : tie.Need-in-effect-requires
 in-effect-requires c κs = search needs
 
 returns-2 : tie.Need-returns-2
-returns-2 c = record { none = chosen (next (in-month (c .before .before .before .before .before .before)) (next (ap not (listed (c .before .before .before .before) kind.Counted (c .before .before .enum-told3 .given .1))) done)); counted = rw (rw (c .before .before .before .before .before .before .before .before .byte-at .ensures) at (no (c .before .in-effect .ensures) (c .if2 .taken))) refl }
+returns-2 c =
+    let s = c .before .before .before .before in
+    let known = listed s kind.Counted (c .before .before .enum-told3 .given .1) in
+    let closed = rw (s .before .before .before .before .byte-at .ensures) at (no (c .before .in-effect .ensures) (c .if2 .taken)) in
+    record { none = chosen (next (in-month (s .before .before)) (next (ap not known) done)); counted = rw closed refl }
 
 cell-index-requires : tie.Need-cell-index-requires
 cell-index-requires c κs =
@@ -84,13 +92,33 @@ cell-index-requires c κs =
     (omega (arith, p .firmMost), omega (arith, p .groupMost), d .least)
 
 returns-3 : tie.Need-returns-3
-returns-3 c = record { first = chosen (next (in-month (c .before .before .before .before)) (here (ap not (listed (c .before .before) kind.Unlisted (c .enum-told .given .1))))); some = omega arith }
+returns-3 c =
+    let s = c .before .before in
+    let unknown = listed s kind.Unlisted (c .enum-told .given .1) in
+    record { first = chosen (next (in-month (s .before .before)) (here (ap not unknown))); some = omega arith }
 
 returns-4 : tie.Need-returns-4
-returns-4 c = record { none = chosen (next (in-month (c .before .before .before .before)) (next (ap not (listed (c .before .before) kind.Listed (c .enum-told2 .given .1))) done)); counted = rw (taken (c .before .before) kind.Listed (c .enum-told2 .given .1) refl, and-false) refl }
+returns-4 c =
+    let s = c .before .before in
+    let known = listed s kind.Listed (c .enum-told2 .given .1) in
+    record {
+      none = chosen (next (in-month (s .before .before)) (next (ap not known) done));
+      counted = rw (taken s kind.Listed (c .enum-told2 .given .1) refl, and-false) refl;
+    }
 
 returns-5 : tie.Need-returns-5
-returns-5 c = (record { none = chosen (next (in-month (c .before .before .before .before .before .before .before)) (next (ap not (listed (c .before .before .before .before .before) kind.Counted (c .before .before .before .enum-told3 .given .1))) done)); counted = rw (rw (c .before .before .before .before .before .before .before .before .before .byte-at .ensures) at (yes (c .before .before .in-effect .ensures) (c .before .if2 .left)), taken (c .before .before .before .before .before) kind.Counted (c .before .before .before .enum-told3 .given .1) refl) refl }, rw (c .before .before .before .before .before .before .before .before .before .byte-at .ensures, c .before .before .before .before .before .before .before .before .before .before .before .before .pre .firmIs, c .before .before .before .before .before .before .before .before .before .before .before .before .pre .groupIs) at (c .cell-index .ensures))
+returns-5 c =
+    let s = c .before .before .before .before .before in
+    let told = c .before .before .before .enum-told3 .given .1 in
+    let day = s .before .before .before .before .byte-at .ensures in
+    let p = s .before .before .before .before .before .before .before .pre in
+    let effective = rw day at (yes (c .before .before .in-effect .ensures) (c .before .if2 .left)) in (
+      record {
+        none = chosen (next (in-month (s .before .before)) (next (ap not (listed s kind.Counted told)) done));
+        counted = rw (effective, taken s kind.Counted told refl) refl;
+      },
+      rw (day, p .firmIs, p .groupIs) at (c .cell-index .ensures),
+    )
 
 pub file-found-spec : {M : Type 1} → statement M
 file-found-spec =

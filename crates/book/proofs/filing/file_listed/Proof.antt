@@ -57,14 +57,30 @@ enum-known-index : tie.Need-enum-known-index
 enum-known-index c = search needs
 
 file-found-requires : tie.Need-file-found-requires
-file-found-requires c κs = let g = sym (ap groupMeaning (c .before .index .given .1)) ∙ group-told c in let f = firm (c .before .before .before .before .before .before) in let h = group-found _ _ _ _ g in record { firmIs = sym (f .first); groupIs = sym (h .first); offsetIs = ap (λ p. p .offset) (group-placed _ _ _ _ g); firmMost = f .inside; groupMost = h .inside }
+file-found-requires c κs =
+    let f = firm (c .before .before .before .before .before .before) in
+    let e = sym (ap groupMeaning (c .before .index .given .1)) ∙ group-told c in
+    let g = group-found _ _ _ _ e in
+    record {
+      firmIs = sym (f .first);
+      groupIs = sym (g .first);
+      offsetIs = ap (λ p. p .offset) (group-placed _ _ _ _ e);
+      firmMost = f .inside;
+      groupMost = g .inside;
+    }
 
 returns : tie.Need-returns
-returns c = record { first = chosen (here (ap not (firm-unlisted _ _ _ _ (sym (ap firmMeaning (c .enum-told .given .1)) ∙ c .before .before .find-firm .ensures)))); some = omega arith }
+returns c =
+    let no = firm-unlisted _ _ _ _ (sym (ap firmMeaning (c .enum-told .given .1)) ∙ c .before .before .find-firm .ensures) in
+    record { first = chosen (here (ap not no)); some = omega arith }
 
 returns-2 : tie.Need-returns-2
 unfolding firmListed
-returns-2 c = record { first = chosen (next (ap not (firm (c .before .before .before .before .before) .listed)) (here (ap not (group-unlisted _ _ _ _ (sym (ap groupMeaning (c .enum-told2 .given .1)) ∙ rw (c .before .before .before .before .byte-at .ensures, c .before .before .before .byte-at2 .ensures) at (c .before .before .find-group .ensures)))))); some = omega arith }
+returns-2 c =
+    let f = firm (c .before .before .before .before .before) in
+    let e = rw (c .before .before .before .before .byte-at .ensures, c .before .before .before .byte-at2 .ensures) at (c .before .before .find-group .ensures) in
+    let no = group-unlisted _ _ _ _ (sym (ap groupMeaning (c .enum-told2 .given .1)) ∙ e) in
+    record { first = chosen (next (ap not (f .listed)) (here (ap not no))); some = omega arith }
 
 returns-3 : tie.Need-returns-3
 unfolding firmListed groupListed choose

@@ -20,16 +20,22 @@ book-size-requires : tie.Need-book-size-requires
 book-size-requires c κs = search needs
 
 clear-requires : tie.Need-clear-requires
-clear-requires c κs = rw (c .book-size .ensures) (sized _ _ (sym (c .before .before .before .before .before .check-book .ensures) ∙ ap meaning (c .before .before .before .l .given .1)) .room)
+clear-requires c κs =
+    let e = sym (c .before .before .before .before .before .check-book .ensures) ∙ ap meaning (c .before .before .before .l .given .1) in
+    rw (c .book-size .ensures) (sized _ _ e .room)
 
 returns : tie.Need-returns
-returns c = let e = sym (c .before .before .before .check-book .ensures) ∙ ap meaning (c .before .number .given .1) in record { answer = rw e; book = rw e }
+returns c =
+    let e = sym (c .before .before .before .check-book .ensures) ∙ ap meaning (c .before .number .given .1) in
+    record { answer = rw e; book = rw e }
 
 same-length : tie.Need-same-length
 same-length c = search needs
 
 returns-2 : tie.Need-returns-2
-returns-2 c = let e = sym (c .before .before .before .before .before .before .before .before .check-book .ensures) ∙ ap meaning (c .before .before .before .before .before .before .l .given .1) in record { answer = rw e; book = rw (e, ← c .before .before .before .book-size .ensures) (c .before .before .clear .ensures) }
+returns-2 c =
+    let e = sym (c .before .before .before .before .before .before .before .before .check-book .ensures) ∙ ap meaning (c .before .before .before .before .before .before .l .given .1) in
+    record { answer = rw e; book = rw (e, ← c .before .before .before .book-size .ensures) (c .before .before .clear .ensures) }
 
 pub open-spec : {M : Type 1} → statement M
 open-spec =

@@ -18,7 +18,9 @@ same-length : tie.Need-same-length
 same-length c = search needs
 
 returns : tie.Need-returns
-returns c = let e = rw (c .before .before .cell-at .ensures) at (no (c .before .can-add .ensures) (c .if1 .taken)) in record { answer = rw e; book = rw e }
+returns c =
+    let e = rw (c .before .before .cell-at .ensures) at (no (c .before .can-add .ensures) (c .if1 .taken)) in
+    record { answer = rw e; book = rw e }
 
 -- where the totals may grow, no sum is above the limit
 fits-in : (c : tie.Else1) → Fitting 1 (plus (c .before .before .cell-at .result) (c .before .before .before .before .before .args .more))
@@ -41,7 +43,11 @@ same-length-2 : tie.Need-same-length-2
 same-length-2 c = search needs
 
 returns-2 : tie.Need-returns-2
-returns-2 c = let e = rw (c .before .before .before .before .before .before .before .before .before .before .before .before .cell-at .ensures) at (yes (c .before .before .before .before .before .before .before .before .before .before .before .can-add .ensures) (c .before .before .before .before .before .before .before .before .before .before .if1 .left)) in record { answer = rw e; book = rw e (rw (c .before .before .before .before .before .before .before .before .before .before .before .before .cell-at .ensures) at (c .before .before .store-cell .ensures)) }
+returns-2 c =
+    let p = c .before .before .before .before .before .before .before .before .before .before in
+    let held = p .before .before .cell-at .ensures in
+    let e = rw held at (yes (p .before .can-add .ensures) (p .if1 .left)) in
+    record { answer = rw e; book = rw e (rw held at (c .before .before .store-cell .ensures)) }
 
 pub add-spec : {M : Type 1} → statement M
 add-spec =

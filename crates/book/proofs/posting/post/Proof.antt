@@ -19,7 +19,9 @@ post-in-requires : tie.Need-post-in-requires
 post-in-requires c κs = sym (c .before .before .before .before .check-book .ensures) ∙ ap meaning (c .before .before .l .given .1)
 
 returns : tie.Need-returns
-returns c = let e = sym (c .before .before .before .check-book .ensures) ∙ ap meaning (c .before .number .given .1) in record { answer = rw e; book = rw e }
+returns c =
+    let e = sym (c .before .before .before .check-book .ensures) ∙ ap meaning (c .before .number .given .1) in
+    record { answer = rw e; book = rw e }
 
 same-length : tie.Need-same-length
 same-length c = search needs

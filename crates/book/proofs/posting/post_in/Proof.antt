@@ -27,7 +27,12 @@ totals-of-requires : tie.Need-totals-of-requires
 totals-of-requires c κs = search needs
 
 add-requires : tie.Need-add-requires
-add-requires c κs = let a = c .before .before .before .before .before .before .before .before .before .args in let t = rw (c .before .before .before .at .given .1) at (c .before .before .before .before .before .file .ensures) in rw (t .1) (omega (arith, admitted-inside (now (a .schedule)) (a .l) (now (a .«record»)) (admitted _ _ _ (passed _ refl (t .0 .none))), sized _ _ (c .before .before .before .before .before .before .before .before .before .pre) .room))
+add-requires c κs =
+    let s = c .before .before .before .before .before .before .before .before .before in
+    let a = s .args in
+    let t = rw (c .before .before .before .at .given .1) at (c .before .before .before .before .before .file .ensures) in
+    let p = admitted _ _ _ (passed _ refl (t .0 .none)) in
+    rw (t .1) (omega (arith, admitted-inside (now (a .schedule)) (a .l) (now (a .«record»)) p, sized _ _ (s .pre) .room))
 
 returns : tie.Need-returns
 returns c = stopped _ _ _ (c .before .before .before .before .before .before .before .pre) (rw (c .before .number .given .1) at (c .before .before .before .file .ensures))
@@ -39,7 +44,9 @@ same-length : tie.Need-same-length
 same-length c = search needs
 
 returns-3 : tie.Need-returns-3
-returns-3 c = let t = rw (c .before .before .before .before .before .before .at .given .1) at (c .before .before .before .before .before .before .before .before .file .ensures) in added _ _ _ (c .before .before .before .before .before .before .before .before .before .before .before .before .pre) (t .0) (t .1) (rw (c .before .before .before .totals-of .ensures) at (c .before .before .add .ensures))
+returns-3 c =
+    let t = rw (c .before .before .before .before .before .before .at .given .1) at (c .before .before .before .before .before .before .before .before .file .ensures) in
+    added _ _ _ (c .before .before .before .before .before .before .before .before .before .before .before .before .pre) (t .0) (t .1) (rw (c .before .before .before .totals-of .ensures) at (c .before .before .add .ensures))
 
 pub post-in-spec : {M : Type 1} → statement M
 post-in-spec =
