@@ -18,6 +18,7 @@ ghost use Rattle.wire.specs.Choose.{choose};
 ghost use Rattle.book.specs.Post.{formCauses, listCauses, recordCauses};
 ghost use Rattle.book.specs.Filing.{FoundIs, FiledIs};
 
+// A refusal's number, or outside, or the place of the record's cell in the book.
 pub(crate) enum Filed {
     Refused(u8),
     Outside,

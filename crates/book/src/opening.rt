@@ -8,6 +8,7 @@ ghost use lib.ListN.{length};
 ghost use Rattle.wire.specs.Lists.{table, over};
 ghost use Rattle.book.specs.Book.{OpenIs};
 
+// A refusal's number and offset, or that the book is open.
 pub enum Opened {
     Refused { number: u8, offset: usize },
     Done,

@@ -19,6 +19,7 @@ ghost use Rattle.book.specs.Book.{checkBook};
 ghost use Rattle.book.specs.Post.{plus, PostIs};
 ghost use Rattle.book.specs.Filing.{AddIs};
 
+// A refusal's number and offset, or what the post did: nothing, or the record was added to its cell.
 pub enum Posted {
     Refused { number: u8, offset: usize },
     Outside,

@@ -73,7 +73,7 @@ found-is : {A : Type 0} (b : Bool) (a : A) {x : A} → found x ≡ cond b (found
 found-is true a e = cc
 found-is false a e = let z : _≡_ {A = ℕ} 0 1 = cc in absurd (omega arith)
 
--- what a search for a code tells: a record of n at which the test holds, and the first
+-- what a search for a code tells: of n records, i is the first that has it
 pub record FoundAt (n : ℕ) (p : ℕ → Bool) (i : ℕ) : Type 0 where
   pub listed : some n p ≡ true
   pub first : seek 0 n p ≡ i

@@ -7,7 +7,7 @@ use mathlib.Core.Path.{_≡_, refl, sym}
 use Rattle.wire.specs.Choose.{choose}
 use Rattle.schedule.specs.Counted.{Taken, refusal, outside, counted, contractListed, contractCounted, statusOf}
 
--- a contract that is taken so is listed, and is counted
+-- whether a contract that is taken so is listed, and whether it is counted
 abbrev pub isListed : Taken → Bool
 isListed (refusal n) = false
 isListed outside = true
@@ -18,6 +18,7 @@ isCounted (refusal n) = false
 isCounted outside = false
 isCounted counted = true
 
+-- the table of statusOf, over the two tests
 abbrev status : (l k : Bool) → Taken
 status l k = choose ((not l, refusal 17) ∷ (k, counted) ∷ []) outside
 
