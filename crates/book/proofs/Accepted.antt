@@ -3,7 +3,7 @@
 -- Assumes nothing.
 use Prim.Native.Nat.{ℕ, _+_, _<_}
 use mathlib.Core.Bool.{Bool, true, false, cond, _&&_, false≢true}
-use mathlib.Core.List.{List, [], _∷_, foldl}
+use mathlib.Core.List.{List, foldl}
 use mathlib.Core.Path.{_≡_, refl, sym, _∙_, fun-ext}
 use native.Mathlib.Omega.{arith}
 use lib.Dec.{eqb}
@@ -12,6 +12,7 @@ use lib.Seq.{getD-take, getD-drop}
 use borrow.Author.Tests.{eqb-true, eq-eqb}
 use Rattle.wire.specs.Choose.{all}
 use Rattle.wire.proofs.Bools.{and-left, and-right, never}
+use Rattle.wire.proofs.Folds.{fold-kept, keep-fold}
 use Rattle.wire.proofs.Choose.{passed, each, every}
 use Rattle.rules.specs.Verdict.{fits}
 use Rattle.rules.specs.declared.Totals.{Totals}
@@ -22,33 +23,9 @@ use Rattle.schedule.proofs.Laws.{firm-found}
 use Rattle.book.specs.Activity.{firmCode, day, totalsOf}
 use Rattle.book.specs.Book.{none}
 use Rattle.book.specs.Post.{plus, firmOf, groupOf, isAdded}
-use Rattle.book.specs.Accepted.{isAt, accept, accepted, keep, isOwn, own}
+use Rattle.book.specs.Accepted.{isAt, accept, accepted, isOwn, own}
 use Rattle.book.proofs.Places.{Placed, Same}
 use Rattle.book.proofs.Admitted.{Added, added}
-
--- two walks of one list keep what each step keeps
-pub fold-keeps : {A B R : Type 0} (I : A → B → Type 0) (p : A → R → A) (q : B → R → B)
-    → ((a : A) (b : B) (r : R) → I a b → I (p a r) (q b r))
-    → (a : A) (b : B) (rs : List R) → I a b → I (foldl p a rs) (foldl q b rs)
-fold-keeps I p q h a b [] i = i
-fold-keeps I p q h a b (r ∷ rs) i = fold-keeps I p q h (p a r) (q b r) rs (h a b r i)
-
--- and so does one walk
-pub fold-kept : {A R : Type 0} (P : A → Type 0) (p : A → R → A) → ((a : A) (r : R) → P a → P (p a r))
-    → (a : A) (rs : List R) → P a → P (foldl p a rs)
-fold-kept P p h a rs i = fold-keeps (λ a (u : Unit {0}). P a) p (λ u r. u) (λ a u r. h a r) a tt rs i
-
--- what a step passes over may be left out
-keep-fold : {A R : Type 0} (p : R → Bool) (q : A → R → A) → ((a : A) (r : R) → p r ≡ false → q a r ≡ a)
-    → (a : A) (rs : List R) → foldl q a (keep p rs) ≡ foldl q a rs
-unfolding keep
-keep-fold p q h a [] = refl
-keep-fold {A} {R} p q h a (r ∷ rs) = go (p r) refl (λ b. keep-fold p q h b rs)
-  where
-    go : (x : Bool) → p r ≡ x → ((b : A) → foldl q b (keep p rs) ≡ foldl q b rs)
-        → foldl q a (cond x (r ∷ keep p rs) (keep p rs)) ≡ foldl q (q a r) rs
-    go true e ih = ih (q a r)
-    go false e ih = rw (h a r e) (ih a)
 
 -- a record whose cell is that of firm f, group g and day d, by the test and by its parts
 module _ (S : List ℕ) (l : Layout) (f g d : ℕ) (R : List ℕ) where

@@ -6,12 +6,13 @@ use mathlib.Core.Bool.{Bool, true, false, cond, _&&_, false≢true}
 use mathlib.Core.List.{List, [], _∷_}
 use mathlib.Core.Path.{_≡_, refl, sym, _∙_, ap, fun-ext}
 use native.Mathlib.Omega.{arith}
-use lib.Dec.{ltb}
+use lib.Dec.{eqb, ltb}
 use lib.ListN.{length, getD, drop}
-use borrow.Author.Tests.{ltb-true, ltb-false, lt-ltb, le-ltb}
+use borrow.Author.Tests.{ltb-true, lt-ltb}
 use Rattle.wire.specs.Choose.{within}
 use Rattle.wire.specs.Lists.{table, over}
 use Rattle.wire.proofs.Bools.{and-left, and-right, range, in-range}
+use Rattle.wire.proofs.Folds.{fold-keeps, fold-kept}
 use Rattle.wire.proofs.Lists.{length-over, length-put, drop-put, length-table, table-over, table-behind}
 use Rattle.rules.specs.declared.Totals.{Totals}
 use Rattle.schedule.specs.Check.{Outcome, refused, good, follow, given, checkOf}
@@ -19,12 +20,13 @@ use Rattle.schedule.specs.declared.scan.Layout.{Layout}
 use Rattle.schedule.proofs.Good.{refused-good}
 use Rattle.book.specs.Activity.{day, totalsOf}
 use Rattle.book.specs.Book.{size, index, none, cellAt, withCell, cells, checkBook, openAnswer, openBook}
-use Rattle.book.specs.Post.{plus, firmOf, groupOf, indexOf, isAdded, bookIn, postBook}
+use Rattle.book.specs.Post.{plus, firmOf, groupOf, indexOf, isCounted, cause, isAdded, outside, counted, answerUnder, bookUnder, postAnswer, postBook}
 use Rattle.book.specs.Accepted.{isAt, accept, accepted, own, posted}
 use Rattle.book.specs.Laws.{Laws}
+use Rattle.book.proofs.Checked.{by-room, book-good}
 use Rattle.book.proofs.Places.{totals-eq, cell-same, cell-other, Placed, inside, same-cell}
 use Rattle.book.proofs.Admitted.{admitted-inside, added}
-use Rattle.book.proofs.Accepted.{fold-keeps, fold-kept, at-same, same-at, accepted-fold, accepted-own, accepted-none, accepted-fits}
+use Rattle.book.proofs.Accepted.{at-same, same-at, accepted-fold, accepted-own, accepted-none, accepted-fits}
 
 -- a book that is as long as it was, and the same from n on
 record Kept (n : ℕ) (B B′ : List ℕ) : Type 0 where
@@ -53,23 +55,9 @@ kept-clear n B h =
     }
 
 module _ (S : List ℕ) {l : Layout} (e : checkOf S ≡ good l) where
-  -- the check of a book: it has too little room, or it has room
-  by-room : (P : Outcome Layout → Type 0) (B : List ℕ) → P (refused 8 0) → (size l ≤ length B → P (good l)) → P (checkBook S (length B))
-  unfolding checkBook
-  by-room P B small roomy = rw e (go (ltb (length B) (size l)) refl)
-    where
-      go : (b : Bool) → ltb (length B) (size l) ≡ b → P (cond b (refused 8 0) (good l))
-      go true t = small
-      go false t = roomy (ltb-false _ _ t)
-
-  -- with room it is good
-  book-good : (B : List ℕ) → size l ≤ length B → checkBook S (length B) ≡ good l
-  unfolding checkBook
-  book-good B h = rw (e, le-ltb (length B) (size l) h)
-
   -- a book that open takes has room
   room : (B : List ℕ) → openAnswer S B ≡ good tt → size l ≤ length B
-  room B o = by-room (λ c. follow c (λ l. good tt) ≡ good tt → size l ≤ length B) B (λ q. absurd (refused-good q)) (λ h q. h) o
+  room B o = by-room S (length B) e (λ c. follow c (λ l. good tt) ≡ good tt → size l ≤ length B) (λ q. absurd (refused-good q)) (λ h q. h) o
 
   -- a record that is added has its cell inside the book
   added-inside : (t : Totals) (R : List ℕ) → isAdded S l t R ≡ true → indexOf S l R + 3 ≤ size l
@@ -77,10 +65,10 @@ module _ (S : List ℕ) {l : Layout} (e : checkOf S ≡ good l) where
 
   -- open keeps the book past its cells
   kept-open : (B : List ℕ) → Kept (size l) B (openBook S B)
-  kept-open B = by-room (λ c. Kept (size l) B (given c B (λ l. over (table (size l) (λ i. 0)) B))) B kept-same (kept-clear (size l) B)
+  kept-open B = by-room S (length B) e (λ c. Kept (size l) B (given c B (λ l. over (table (size l) (λ i. 0)) B))) kept-same (kept-clear (size l) B)
 
   -- so does a post to a book with room
-  kept-in : (B R : List ℕ) → size l ≤ length B → Kept (size l) B (bookIn S B R l)
+  kept-in : (B R : List ℕ) → size l ≤ length B → Kept (size l) B (bookUnder S B R l)
   kept-in B R h = go (isAdded S l t R) refl
     where
       t : Totals
@@ -92,7 +80,7 @@ module _ (S : List ℕ) {l : Layout} (e : checkOf S ≡ good l) where
 
   -- a post to any book
   kept-post : (B R : List ℕ) → Kept (size l) B (postBook S B R)
-  kept-post B R = by-room (λ c. Kept (size l) B (given c B (bookIn S B R))) B kept-same (kept-in B R)
+  kept-post B R = by-room S (length B) e (λ c. Kept (size l) B (given c B (bookUnder S B R))) kept-same (kept-in B R)
 
   -- and a list of posts after open
   kept-posted : (B : List ℕ) (rs : List (List ℕ)) → Kept (size l) B (posted S (openBook S B) rs)
@@ -106,7 +94,7 @@ module _ (S : List ℕ) {l : Layout} (e : checkOf S ≡ good l) where
 
     -- after a post of a record whose cell it is, it holds what the record makes of its totals
     post-here : (B R : List ℕ) → size l ≤ length B → isAt S l f g d R ≡ true
-        → cellAt (bookIn S B R l) place ≡ accept S l f g d (cellAt B place) R
+        → cellAt (bookUnder S B R l) place ≡ accept S l f g d (cellAt B place) R
     post-here B R h at =
         let s = at-same S l f g d R at in
         let there : indexOf S l R ≡ place = rw (s .firm, s .group, s .day) in
@@ -120,7 +108,7 @@ module _ (S : List ℕ) {l : Layout} (e : checkOf S ≡ good l) where
         go false = refl
 
     -- after a post of any other, what it held
-    post-other : (B R : List ℕ) → size l ≤ length B → isAt S l f g d R ≡ false → cellAt (bookIn S B R l) place ≡ cellAt B place
+    post-other : (B R : List ℕ) → size l ≤ length B → isAt S l f g d R ≡ false → cellAt (bookUnder S B R l) place ≡ cellAt B place
     post-other B R h at = go (isAdded S l t R) refl
       where
         t : Totals
@@ -149,17 +137,17 @@ module _ (S : List ℕ) {l : Layout} (e : checkOf S ≡ good l) where
     holds-post B t R h =
         record {
           long = rw (kept-post B R .long) (h .long);
-          cell = rw (book-good B (h .long), ← h .cell) (go (isAt S l f g d R) refl);
+          cell = rw (book-good S (length B) e (h .long), ← h .cell) (go (isAt S l f g d R) refl);
         }
       where
-        go : (b : Bool) → isAt S l f g d R ≡ b → cellAt (bookIn S B R l) place ≡ accept S l f g d (cellAt B place) R
+        go : (b : Bool) → isAt S l f g d R ≡ b → cellAt (bookUnder S B R l) place ≡ accept S l f g d (cellAt B place) R
         go true at = post-here B R (h .long) at
         go false at = post-other B R (h .long) at ∙ rw at
 
     -- after open it holds nothing
     holds-open : (B : List ℕ) → size l ≤ length B → Holds (openBook S B) none
     holds-open B h =
-        rw (book-good B h)
+        rw (book-good S (length B) e h)
         (record {
           long = rw (kept-clear (size l) B h .long) h;
           cell = totals-eq (zero place (omega arith)) (zero (place + 1) (omega arith)) (zero (place + 2) (omega arith));
@@ -191,10 +179,26 @@ module _ (S : List ℕ) {l : Layout} (e : checkOf S ≡ good l) where
           sym (accepted-none S e rs f g d
           (λ p. false≢true (sym t ∙ rw (lt-ltb _ _ (p .group), in-range 1 31 d (p .first) (p .last)))))
 
+-- where the answer is not "counted", nothing was added
+not-counted : (x y : Bool) (n : ℕ) (B w : List ℕ) → (cond y (good (cond x counted outside)) (refused n 0) ≡ good counted → ⊥) → cond (x && y) w B ≡ B
+not-counted true true n B w h = absurd (h refl)
+not-counted true false n B w h = refl
+not-counted false y n B w h = refl
+
+unchanged : (S B R : List ℕ) → (postAnswer S B R ≡ good counted → ⊥) → postBook S B R ≡ B
+unchanged S B R = by (checkBook S (length B))
+  where
+    by : (c : Outcome Layout) → (follow c (answerUnder S B R) ≡ good counted → ⊥) → given c B (bookUnder S B R) ≡ B
+    by (refused n o) h = refl
+    by (good l) h =
+        let n = cause S l (cellAt B (indexOf S l R)) R in
+        not-counted (isCounted S l R) (eqb n 0) n B _ h
+
 -- every law of specs/Laws.antt
 pub laws : (S : List ℕ) {l : Layout} → checkOf S ≡ good l → Laws S l
 laws S {l} e =
     record {
+      unchanged = unchanged S;
       held = λ B rs f o listed. held-cells S e B rs f (room S e B o) listed;
       beyond = λ B rs. kept-posted S e B rs .rest;
       kept = λ B rs. kept-posted S e B rs .long;

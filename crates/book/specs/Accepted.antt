@@ -3,9 +3,10 @@
 -- Assumes nothing.
 use Prim.Native.Nat.{ℕ}
 use mathlib.Core.Bool.{Bool, cond, _&&_}
-use mathlib.Core.List.{List, [], _∷_, foldl}
+use mathlib.Core.List.{List, foldl}
 use lib.Dec.{eqb}
 use Rattle.wire.specs.Choose.{choose}
+use Rattle.wire.specs.Lists.{keep}
 use Rattle.rules.specs.Month.{Cells}
 use Rattle.rules.specs.declared.Totals.{Totals}
 use Rattle.schedule.specs.Lookup.{firmHas}
@@ -28,11 +29,6 @@ module _ (S : List ℕ) (l : Layout) (f g d : ℕ) where
 -- Accepted totals of a firm's cells, from the schedule and the list alone: raw, score and lots start at 0
 unfoldable pub accepted : (S : List ℕ) → (rs : List (List ℕ)) → (f : ℕ) → Cells
 accepted S rs f g d = given (checkOf S) none (λ l. foldl (accept S l f g d) none rs)
-
--- the items of a list that pass a test, in their order
-unfoldable pub keep : {A : Type 0} → (A → Bool) → List A → List A
-keep p [] = []
-keep p (a ∷ rest) = cond (p a) (a ∷ keep p rest) (keep p rest)
 
 -- A firm's own posts: the records that 11 to 13 don't refuse and that carry its code C at 4
 abbrev pub isOwn : (C R : List ℕ) → Bool

@@ -14,10 +14,11 @@ firmCode R = take 3 (drop 4 R)
 abbrev pub day : (R : List ℕ) → ℕ
 day R = getD R 7 0
 
--- Records, kind 4: group at 8
+-- Records, kind 4: group at 8, its first letter
 abbrev pub groupFirst : (R : List ℕ) → ℕ
 groupFirst R = getD R 8 0
 
+-- and its second
 abbrev pub groupSecond : (R : List ℕ) → ℕ
 groupSecond R = getD R 9 0
 
@@ -25,29 +26,35 @@ groupSecond R = getD R 9 0
 abbrev pub contract : (R : List ℕ) → ℕ
 contract R = u16At R 10
 
--- Records, kind 4: u32 each from 12, new orders, modifications, cancellations, FAK/FOK, mass action requests, mass action reports,
--- minimum-quantity orders, lots
+-- Records, kind 4: u32 each from 12, first new orders
 abbrev pub newOrders : (R : List ℕ) → ℕ
 newOrders R = u32At R 12
 
+-- Records, kind 4: modifications, at 16
 abbrev pub modifications : (R : List ℕ) → ℕ
 modifications R = u32At R 16
 
+-- Records, kind 4: cancellations, at 20
 abbrev pub cancellations : (R : List ℕ) → ℕ
 cancellations R = u32At R 20
 
+-- Records, kind 4: FAK/FOK, at 24
 abbrev pub fakFok : (R : List ℕ) → ℕ
 fakFok R = u32At R 24
 
+-- Records, kind 4: mass action requests, at 28
 abbrev pub massRequests : (R : List ℕ) → ℕ
 massRequests R = u32At R 28
 
+-- Records, kind 4: mass action reports, at 32
 abbrev pub massReports : (R : List ℕ) → ℕ
 massReports R = u32At R 32
 
+-- Records, kind 4: minimum-quantity orders, at 36
 abbrev pub minimumQuantity : (R : List ℕ) → ℕ
 minimumQuantity R = u32At R 36
 
+-- Records, kind 4: lots, at 40
 abbrev pub lots : (R : List ℕ) → ℕ
 lots R = u32At R 40
 

@@ -10,10 +10,13 @@ use Rattle.schedule.specs.Lookup.{found, firmFound}
 use Rattle.schedule.specs.Check.{good}
 use Rattle.schedule.specs.declared.scan.Layout.{Layout}
 use Rattle.book.specs.Book.{size, cells, openAnswer, openBook}
+use Rattle.book.specs.Post.{counted, postAnswer, postBook}
 use Rattle.book.specs.Accepted.{accepted, own, posted}
 
 -- of a schedule S that the check takes, and that holds l: checkOf S ≡ good l
 pub record Laws (S : List ℕ) (l : Layout) : Type 0 where
+  -- a post whose answer is not "counted" changes nothing
+  pub unchanged : (B R : List ℕ) → (postAnswer S B R ≡ good counted → ⊥) → postBook S B R ≡ B
   -- from a book that open has set to zero, after any list, a firm's cells in the book are its accepted totals, whatever lies past 93 × G × F
   pub held : (B : List ℕ) (rs : List (List ℕ)) (f : ℕ) → openAnswer S B ≡ good tt → f < l .firms
       → cells (l .groups) (posted S (openBook S B) rs) f ≡ accepted S rs f

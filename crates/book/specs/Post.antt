@@ -90,24 +90,24 @@ postMeaning posted.Counted = good counted
 
 module _ (S B R : List ℕ) where
   -- Post: 11 to 18, asked of the cell as it stands in the book; else "counted" or "outside"
-  abbrev pub answerIn : Layout → Outcome Effect
-  answerIn l =
+  abbrev pub answerUnder : Layout → Outcome Effect
+  answerUnder l =
       let n = cause S l (cellAt B (indexOf S l R)) R in
       cond (eqb n 0) (good (cond (isCounted S l R) counted outside)) (refused n 0)
 
   -- Post adds to the cell, or changes nothing
-  abbrev pub bookIn : Layout → List ℕ
-  bookIn l =
+  abbrev pub bookUnder : Layout → List ℕ
+  bookUnder l =
       let t = cellAt B (indexOf S l R) in
       cond (isAdded S l t R) (withCell B (indexOf S l R) (plus t (totalsOf R))) B
 
   -- Post, after 1 to 8
   abbrev pub postAnswer : Outcome Effect
-  postAnswer = follow (checkBook S (length B)) answerIn
+  postAnswer = follow (checkBook S (length B)) answerUnder
 
   -- on a refusal every buffer is unchanged
   abbrev pub postBook : List ℕ
-  postBook = given (checkBook S (length B)) B bookIn
+  postBook = given (checkBook S (length B)) B bookUnder
 
 -- what post promises, of the book before and after
 pub record PostIs (S B R : List ℕ) (r : Posted) (B′ : List ℕ) : Type 0 where

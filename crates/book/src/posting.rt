@@ -65,7 +65,7 @@ fn add(book: &mut [u64], at: usize, more: Totals) -> Posted
 }
 
 // A post to a book that has the numbers that the schedule asks for.
-fn post_in(schedule: &[u8], l: Layout, book: &mut [u64], record: &[u8]) -> Posted
+fn post_checked(schedule: &[u8], l: Layout, book: &mut [u64], record: &[u8]) -> Posted
     requires { ⌜ checkBook (now schedule) (length (now book)) ≡ good l ⌝ }
     ensures { λ r. ⌜ PostIs (now (schedule .entry)) (now (book .entry)) (now («record» .entry)) r (now (book .exit)) ⌝ }
 {
@@ -82,6 +82,6 @@ pub fn post(schedule: &[u8], book: &mut [u64], record: &[u8]) -> Posted
 {
     match check_book(schedule, book.len()) {
         Checked::Refused { number, offset } => Posted::Refused { number, offset },
-        Checked::Good(l) => post_in(schedule, l, book, record),
+        Checked::Good(l) => post_checked(schedule, l, book, record),
     }
 }

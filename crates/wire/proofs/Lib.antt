@@ -4,3 +4,4 @@ pub mod Choose
 pub mod Sums
 pub mod Lists
 pub mod Bytes
+pub mod Folds

@@ -1,6 +1,7 @@
--- Lists that are built place by place, and lists written over others.
+-- Lists that are built place by place, written over others, or kept in part.
 -- Assumes nothing.
 use Prim.Native.Nat.{ℕ, zero, suc, _+_}
+use mathlib.Core.Bool.{Bool, cond}
 use mathlib.Core.List.{List, [], _∷_, _++_}
 use lib.ListN.{length, take, drop}
 
@@ -21,3 +22,8 @@ module _ {A : Type 0} where
   -- xs with ws written over its front
   abbrev pub over : List A → List A → List A
   over ws xs = ws ++ drop (length ws) xs
+
+  -- the items of a list that pass a test, in their order
+  unfoldable pub keep : (A → Bool) → List A → List A
+  keep p [] = []
+  keep p (x ∷ xs) = cond (p x) (x ∷ keep p xs) (keep p xs)

@@ -15,8 +15,8 @@ enum-known-number c = search needs
 enum-known-l : tie.Need-enum-known-l
 enum-known-l c = search needs
 
-post-in-requires : tie.Need-post-in-requires
-post-in-requires c κs = sym (c .before .before .before .before .check-book .ensures) ∙ ap meaning (c .before .before .l .given .1)
+post-checked-requires : tie.Need-post-checked-requires
+post-checked-requires c κs = sym (c .before .before .before .before .check-book .ensures) ∙ ap meaning (c .before .before .l .given .1)
 
 returns : tie.Need-returns
 returns c =
@@ -36,7 +36,7 @@ post-spec =
     check-book-requires
     enum-known-number
     enum-known-l
-    post-in-requires
+    post-checked-requires
     returns
     same-length
     returns-2)

@@ -8,8 +8,8 @@ use Rattle.wire.proofs.Choose.{passed}
 use Rattle.book.proofs.Checked.{sized}
 use Rattle.book.proofs.Admitted.{admitted, admitted-inside}
 use Rattle.book.proofs.Answers.{stopped, passed-over, added}
-use Rattle.book.proofs.posting.post_in.Statement.{statement}
-use Rattle.book.proofs.posting.post_in.Tie as tie
+use Rattle.book.proofs.posting.post_checked.Statement.{statement}
+use Rattle.book.proofs.posting.post_checked.Tie as tie
 
 file-requires : tie.Need-file-requires
 file-requires c κs = search needs
@@ -48,8 +48,8 @@ returns-3 c =
     let t = rw (c .before .before .before .before .before .before .at .given .1) at (c .before .before .before .before .before .before .before .before .file .ensures) in
     added _ _ _ (c .before .before .before .before .before .before .before .before .before .before .before .before .pre) (t .0) (t .1) (rw (c .before .before .before .totals-of .ensures) at (c .before .before .add .ensures))
 
-pub post-in-spec : {M : Type 1} → statement M
-post-in-spec =
+pub post-checked-spec : {M : Type 1} → statement M
+post-checked-spec =
     tie.close
     (tie.spec
     file-requires
