@@ -11,7 +11,7 @@ use Rattle.wire.specs.Choose.{choose, within, seek}
 use Rattle.rules.specs.Verdict.{fits}
 use Rattle.rules.specs.declared.Totals.{Totals}
 use Rattle.schedule.specs.Calendar.{daysIn, inEffect}
-use Rattle.schedule.specs.Lookup.{lengthAt, kindAt, bodyAt, groupStart, groupIs, groupListed, firmIs, firmListed}
+use Rattle.schedule.specs.Lookup.{lengthAt, kindAt, bodyAt, groupStart, groupIs, groupListed, firmPlace, firmListed}
 use Rattle.schedule.specs.Counted.{contractListed, contractCounted}
 use Rattle.schedule.specs.Check.{Outcome, refused, good, follow, given}
 use Rattle.schedule.specs.declared.scan.Layout.{Layout}
@@ -35,7 +35,7 @@ formCauses R =
 module _ (S : List ℕ) (l : Layout) where
   -- the place of the record's firm, from 0; past the last, where it is unlisted
   abbrev pub firmOf : (R : List ℕ) → ℕ
-  firmOf R = seek 0 (l .firms) (firmIs S (l .start) (firmCode R))
+  firmOf R = firmPlace S (l .start) (l .firms) (firmCode R)
 
   -- the place of its group, likewise
   abbrev pub groupOf : (R : List ℕ) → ℕ

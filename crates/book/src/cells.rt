@@ -7,7 +7,7 @@ ghost use mathlib.Core.Path.{_≡_};
 ghost use Prim.Native.Nat.{_+_, _^_, _≤_, _<_};
 ghost use lib.ListN.{length, getD};
 ghost use Rattle.schedule.specs.Check.{meaning};
-ghost use Rattle.book.specs.Book.{size, index, cellAt, withCell, checkBook};
+ghost use Rattle.book.specs.Book.{size, index, cellAt, withCell, cells, checkBook};
 
 // How many numbers a book needs.
 pub(crate) fn book_size(l: Layout) -> usize
@@ -44,6 +44,20 @@ pub(crate) fn cell_at(book: &[u64], at: usize) -> Totals
     }
 }
 
+// A firm's cell: no totals past the groups, and on a day outside 1 to 31.
+pub fn cell(book: &[u64], groups: u8, firm: u8, group: u8, day: u8) -> Totals
+    ensures { λ r. ⌜ r ≡ cells groups (now (book .entry)) firm group day ⌝ }
+{
+    if !((group < groups) & ((1 <= day) & (day <= 31))) {
+        return Totals {
+            raw: 0,
+            score: 0,
+            lots: 0,
+        };
+    }
+    cell_at(book, cell_index(groups, firm as usize, group as usize, day))
+}
+
 // Puts totals into the cell at a place.
 pub(crate) fn store_cell(book: &mut [u64], at: usize, t: Totals)
     requires { ⌜ at + 3 ≤ length (now book) ⌝ }
@@ -55,7 +69,7 @@ pub(crate) fn store_cell(book: &mut [u64], at: usize, t: Totals)
 }
 
 // The schedule and the size of a book: refusals 1 to 8, or what the schedule holds.
-pub(crate) fn check_book(schedule: &[u8], numbers: usize) -> Checked
+pub fn check_book(schedule: &[u8], numbers: usize) -> Checked
     ensures { λ r. ⌜ meaning r ≡ checkBook (now (schedule .entry)) numbers ⌝ }
 {
     match check(schedule) {

@@ -5,6 +5,8 @@ mod filing;
 mod opening;
 mod posting;
 
+pub use cells::cell;
+pub use cells::check_book;
 pub use opening::Opened;
 pub use opening::open;
 pub use posting::Posted;

@@ -26,7 +26,7 @@ eased h = record { edges = λ e. leb-⇒ (h .raw) (le-refl _); score = h .score;
 
 -- where the same days count, a sum over them rises with what is summed
 over-le : (s : Terms) (g : ℕ) (c₁ c₂ : Cells) → ((k : ℕ) → counted s c₁ g k ≡ counted s c₂ g k)
-    → (f : Totals → ℕ) → ((k : ℕ) → s .inEffect k ≡ true → f (c₁ g k) ≤ f (c₂ g k)) → overCounted s c₁ g f ≤ overCounted s c₂ g f
+    → (f : Totals → ℕ) → ((k : ℕ) → s .inEffect k ≡ true → f (c₁ g k) ≤ f (c₂ g k)) → overCounted s c₁ 31 g f ≤ overCounted s c₂ 31 g f
 over-le s g c₁ c₂ same f h =
     sum-le 31 _ _ (λ i l. rw (same (i + 1)) (cond-where (counted s c₂ g (i + 1)) (λ q. h (i + 1) (and-left (s .inEffect (i + 1)) _ q))))
 

@@ -24,21 +24,21 @@ module _ (s : Terms) (c : Cells) where
   abbrev pub counted : (g day : ℕ) → Bool
   counted g day = s .inEffect day && ltb 0 (c g day .raw)
 
-  -- a sum over the counted days of a group
-  abbrev pub overCounted : (g : ℕ) → (Totals → ℕ) → ℕ
-  overCounted g f = sum 31 (λ i. cond (counted g (i + 1)) (f (c g (i + 1))) 0)
+  -- a sum over the counted days of a group, among the first n days
+  abbrev pub overCounted : (n g : ℕ) → (Totals → ℕ) → ℕ
+  overCounted n g f = sum n (λ i. cond (counted g (i + 1)) (f (c g (i + 1))) 0)
 
   -- The month: d, how many they are
   abbrev pub days : (g : ℕ) → ℕ
-  days g = overCounted g (λ t. 1)
+  days g = overCounted 31 g (λ t. 1)
 
   -- The month: R, S and V are sums of raw, score and lots over the d counted days
   abbrev pub sums : (g : ℕ) → Totals
   sums g =
       record {
-        raw = overCounted g (λ t. t .raw);
-        score = overCounted g (λ t. t .score);
-        lots = overCounted g (λ t. t .lots);
+        raw = overCounted 31 g (λ t. t .raw);
+        score = overCounted 31 g (λ t. t .score);
+        lots = overCounted 31 g (λ t. t .lots);
       }
 
 -- The month: exempt when R ≤ 20,000 × d, or when 100 × S ≤ B × m × V, of d counted days with the sums t

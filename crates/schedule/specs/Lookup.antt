@@ -76,9 +76,13 @@ pub record GroupPlace : Type 0 where
   pub offset : ℕ
   pub fields : Group
 
+-- the fields of group i
+abbrev pub groupAt : List ℕ → (i : ℕ) → Group
+groupAt S i = groupFields (bodyAt S (groupStart S i))
+
 -- group i as it is found
 abbrev pub groupPlace : List ℕ → (i : ℕ) → GroupPlace
-groupPlace S i = record { index = i; offset = groupStart S i; fields = groupFields (bodyAt S (groupStart S i)) }
+groupPlace S i = record { index = i; offset = groupStart S i; fields = groupAt S i }
 
 -- the group with a code, among the first n
 unfoldable pub groupFound : List ℕ → (n first second : ℕ) → Found GroupPlace
@@ -90,9 +94,13 @@ abbrev pub groupMeaning : FoundGroup → Found GroupPlace
 groupMeaning (group.At i o g) = found (record { index = i; offset = o; fields = g })
 groupMeaning group.Nothing = unlisted
 
--- the place of the firm with the code C, among n that start at `start`
+-- the place of the first firm with the code C, among n that start at `start`; n, where it is unlisted
+abbrev pub firmPlace : List ℕ → (start n : ℕ) → List ℕ → ℕ
+firmPlace S start n C = seek 0 n (firmIs S start C)
+
+-- what a search for a firm's code finds
 unfoldable pub firmFound : List ℕ → (start n : ℕ) → List ℕ → Found ℕ
-firmFound S start n C = cond (firmListed S start n C) (found (seek 0 n (firmIs S start C))) unlisted
+firmFound S start n C = cond (firmListed S start n C) (found (firmPlace S start n C)) unlisted
 
 -- what the search's answer means
 abbrev pub firmMeaning : FoundFirm → Found ℕ

@@ -7,9 +7,9 @@ use mathlib.Core.Path.{_≡_, refl, sym, _∙_, ap}
 use native.Mathlib.Numerals.{add-one}
 use native.Mathlib.Omega.{arith}
 use lib.Dec.{eqb}
-use borrow.Author.Tests.{eq-eqb, eqb-true, eqb-false, ltb-false}
+use borrow.Author.Tests.{eq-eqb, eqb-true, eqb-false, ltb-true, ltb-false}
 use Rattle.wire.specs.Choose.{choose, all, seekIn, seek, some}
-use Rattle.wire.proofs.Bools.{and-left, and-right}
+use Rattle.wire.proofs.Bools.{and-left, and-right, never}
 
 -- how a choice was made: from the top, tests that fail are passed, and one that holds decides
 pub data Chosen {A : Type 0} : List (Bool × A) → A → A → Type 0 where
@@ -129,3 +129,9 @@ some-at n p i h e = go (some n p) refl
     go : (b : Bool) → some n p ≡ b → some n p ≡ true
     go true q = q
     go false q = absurd (false≢true (sym (none-at n p q i h) ∙ e))
+
+pub none-some : (n : ℕ) (p : ℕ → Bool) → ((i : ℕ) → i < n → p i ≡ false) → some n p ≡ false
+none-some n p h =
+    never (some n p) (λ t.
+    let inside = ltb-true (seek 0 n p) n t in
+    false≢true (sym (h (seek 0 n p) inside) ∙ sought n p .found (omega arith)))

@@ -3,7 +3,7 @@
 use Prim.Native.Nat.{ℕ, zero, suc, _+_, _-_, _≤_, _<_}
 use mathlib.Core.List.{List, [], _∷_, _++_, append-assoc, append-nil}
 use mathlib.Core.Logic.{⊎-elim}
-use mathlib.Core.Path.{_≡_, refl, sym, ap, _∙_}
+use mathlib.Core.Path.{_≡_, refl, sym, ap, ap₂, _∙_}
 use native.Mathlib.Nat.{le-refl, le-trans, eq-or-lt-of-le, add-zero}
 use native.Mathlib.Numerals.{add-one}
 use native.Mathlib.Omega.{arith}
@@ -104,6 +104,12 @@ module _ {A : Type 0} where
 
       pub joined-kept : i ≤ n → length (over (joined i f) xs) ≡ length xs
       joined-kept h = length-over (joined i f) xs (le-trans (joined-le i n h) room)
+
+  -- what is the same below n joins to the same list
+  pub joined-same : (n : ℕ) (f g : ℕ → List A) → ((i : ℕ) → i < n → f i ≡ g i) → joined n f ≡ joined n g
+  unfolding joined
+  joined-same zero f g h = refl
+  joined-same (suc n) f g h = ap₂ _++_ (joined-same n f g (λ i l. h i (omega arith))) (h n (omega arith))
 
   -- an element read and written behind what is over the front
   module _ (ws xs : List A) where

@@ -1,0 +1,45 @@
+-- The test is that of the definition: where it fails there are no totals, and else the cell is read at its index, which is small.
+-- Assumes nothing.
+use Prim.Native.Nat.{ℕ, _*_, _≤_, _<_}
+use mathlib.Core.Bool.{Bool, true, false, _&&_}
+use mathlib.Core.Path.{_≡_}
+use native.Mathlib.Nat.{mul-le-mul}
+use native.Mathlib.Omega.{arith}
+use lib.Dec.{ltb}
+use borrow.Author.Needs.{needs}
+use borrow.Author.Tests.{not-true, not-false}
+use Rattle.wire.specs.Choose.{within}
+use Rattle.wire.proofs.Bools.{and-right, range}
+use Rattle.book.proofs.cells.cell.Statement.{statement}
+use Rattle.book.proofs.cells.cell.Tie as tie
+
+returns : tie.Need-returns
+returns c =
+    let a = c .before .before .args in
+    let e : (ltb (a .group) (a .groups) && within 1 31 (a .day)) ≡ false = not-true _ (c .if1 .taken) in
+    rw e
+
+cell-index-requires : tie.Need-cell-index-requires
+cell-index-requires c κs =
+    let a = c .before .before .args in
+    let e : (ltb (a .group) (a .groups) && within 1 31 (a .day)) ≡ true = not-false _ (c .if1 .left) in
+    let d = range 1 31 (a .day) (and-right (ltb (a .group) (a .groups)) (within 1 31 (a .day)) e) in
+    let f : a .firm < 256 = search needs in
+    let g : a .group < 256 = search needs in
+    (f, g, d .least)
+
+cell-at-requires : tie.Need-cell-at-requires
+cell-at-requires c κs =
+    let a = c .before .before .before .args in
+    let f : a .firm ≤ 255 = search needs in
+    let g : a .groups ≤ 255 = search needs in
+    rw (c .cell-index .ensures) (omega (arith, mul-le-mul f g))
+
+returns-2 : tie.Need-returns-2
+returns-2 c =
+    let a = c .before .before .before .before .args in
+    let e : (ltb (a .group) (a .groups) && within 1 31 (a .day)) ≡ true = not-false _ (c .before .before .if1 .left) in
+    rw (e, ← c .before .cell-index .ensures) (c .cell-at .ensures)
+
+pub cell-spec : {M : Type 1} → statement M
+cell-spec = tie.close (tie.spec returns cell-index-requires cell-at-requires returns-2)
