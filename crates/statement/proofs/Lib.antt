@@ -1,0 +1,5 @@
+pub mod Exempt
+pub mod Waivers
+pub mod Shown
+pub mod Answers
+pub mod Demand3

@@ -1,0 +1,62 @@
+-- The array's front is the groupings of the groups before g.
+-- Assumes nothing.
+use Prim.Native.Nat.{_-_, _≤_}
+use mathlib.Core.Path.{_≡_, refl, ap, _∙_}
+use native.Mathlib.Omega.{arith}
+use lib.ListN.{replicate}
+use borrow.Author.Needs.{needs}
+use Rattle.wire.specs.Lists.{table, over}
+use Rattle.wire.proofs.Lists.{joined-none, table-write, table-done}
+use Rattle.schedule.specs.Lookup.{groupAt}
+use Rattle.schedule.specs.declared.fields.Group.{Group}
+use Rattle.statement.proofs.groups.group_groupings.Statement.{statement}
+use Rattle.statement.proofs.groups.group_groupings.Tie as tie
+
+abbrev Inv-loop : tie.InvT-loop
+Inv-loop schedule starts groupings₀ g₀ groupings g = (g ≤ 32) × (groupings ≡ over (table g (λ i. groupAt schedule i .grouping)) groupings₀)
+
+abbrev μ-loop : tie.MeasureT-loop
+μ-loop schedule starts groupings₀ g₀ groupings g = 32 - g
+
+loop-holds : tie.Need-loop-holds Inv-loop μ-loop
+loop-holds c = rw joined-none (omega arith, refl)
+
+group-of-requires : tie.Need-group-of-requires Inv-loop μ-loop
+group-of-requires c κs = search needs
+
+array-write-groupings : tie.Need-array-write-groupings Inv-loop μ-loop
+array-write-groupings c = search needs
+
+add-g : tie.Need-add-g Inv-loop μ-loop
+add-g c = search needs
+
+loop-less : tie.Need-loop-less Inv-loop μ-loop
+loop-less c = search needs
+
+loop-again : tie.Need-loop-again Inv-loop μ-loop
+loop-again c =
+    let a = c .before .before .before .before .args in (
+      search needs,
+      rw (c .before .before .loop .inv .1)
+          (table-write (λ i. groupAt (a .schedule .now) i .grouping) (c .before .before .loop .g) (c .group-of .result .grouping) (replicate 32 0) (omega arith)
+          (ap (λ (x : Group). x .grouping) (c .group-of .ensures))),
+    )
+
+returns : tie.Need-returns Inv-loop μ-loop
+returns c =
+    let e : c .before .loop .g ≡ 32 = omega arith in
+    rw e at (c .before .loop .inv .1) ∙ table-done (λ i. groupAt (c .before .before .before .args .schedule .now) i .grouping) 32 (replicate 32 0) refl
+
+pub group-groupings-spec : {M : Type 1} → statement M
+group-groupings-spec =
+    tie.close
+    (tie.spec
+    Inv-loop
+    μ-loop
+    loop-holds
+    group-of-requires
+    array-write-groupings
+    add-g
+    loop-less
+    loop-again
+    returns)

@@ -1,0 +1,29 @@
+-- The array holds where group g stands.
+-- Assumes nothing.
+use mathlib.Core.Path.{_≡_}
+use lib.ListN.{getD}
+use borrow.Author.Needs.{needs}
+use Rattle.wire.proofs.Lists.{table-at}
+use Rattle.schedule.specs.Lookup.{groupStart}
+use Rattle.statement.proofs.groups.group_of.Statement.{statement}
+use Rattle.statement.proofs.groups.group_of.Tie as tie
+
+mul-group-at : tie.Need-mul-group-at
+mul-group-at c = search needs
+
+element-copy-out-group-at : tie.Need-element-copy-out-group-at
+element-copy-out-group-at c = search needs
+
+group-at-requires : tie.Need-group-at-requires
+group-at-requires c κs = search needs
+
+returns : tie.Need-returns
+returns c =
+    let s = c .before .before .before .pre in
+    let a = c .before .before .before .args in
+    let start : getD (a .starts .now) (a .g) 0 ≡ groupStart (a .schedule .now) (a .g) = rw (s .1) (table-at (groupStart (a .schedule .now)) 32 (a .g) 0 (s .0)) in
+    rw start at (c .group-at .ensures)
+
+pub group-of-spec : {M : Type 1} → statement M
+group-of-spec =
+    tie.close (tie.spec mul-group-at element-copy-out-group-at group-at-requires returns)

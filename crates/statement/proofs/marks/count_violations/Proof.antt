@@ -1,0 +1,64 @@
+-- The number is that of the places so far that have a mark.
+-- Assumes nothing.
+use Prim.Native.Nat.{_-_, _≤_}
+use mathlib.Core.Bool.{not}
+use mathlib.Core.Path.{_≡_, refl}
+use native.Mathlib.Omega.{arith}
+use lib.Dec.{eqb}
+use borrow.Author.Needs.{needs}
+use Rattle.wire.specs.Sums.{count}
+use Rattle.wire.proofs.Sums.{sum-none, sum-more}
+use Rattle.statement.specs.Parts.{heldMark}
+use Rattle.statement.proofs.marks.count_violations.Statement.{statement}
+use Rattle.statement.proofs.marks.count_violations.Tie as tie
+
+abbrev Inv-loop : tie.InvT-loop
+Inv-loop marks n₀ i₀ n i = (i ≤ 992) × (n ≡ count i (λ k. not (eqb (heldMark marks k) 0))) × (n ≤ i)
+
+abbrev μ-loop : tie.MeasureT-loop
+μ-loop marks n₀ i₀ n i = 992 - i
+
+loop-holds : tie.Need-loop-holds Inv-loop μ-loop
+loop-holds c = rw sum-none (omega arith, refl, omega arith)
+
+element-copy-out-one : tie.Need-element-copy-out-one Inv-loop μ-loop
+element-copy-out-one c = search needs
+
+one-requires : tie.Need-one-requires Inv-loop μ-loop
+one-requires c κs = search needs
+
+cast-n : tie.Need-cast-n Inv-loop μ-loop
+cast-n c = search needs
+
+add-n : tie.Need-add-n Inv-loop μ-loop
+add-n c = search needs
+
+add-i : tie.Need-add-i Inv-loop μ-loop
+add-i c = search needs
+
+loop-less : tie.Need-loop-less Inv-loop μ-loop
+loop-less c = search needs
+
+loop-again : tie.Need-loop-again Inv-loop μ-loop
+loop-again c = (search needs, rw (c .one .ensures .0, c .before .before .before .loop .inv .1, sum-more), search needs)
+
+returns : tie.Need-returns Inv-loop μ-loop
+returns c =
+    let e : c .before .loop .i ≡ 992 = omega arith in
+    (rw e at (c .before .loop .inv .1), omega arith)
+
+pub count-violations-spec : {M : Type 1} → statement M
+count-violations-spec =
+    tie.close
+    (tie.spec
+    Inv-loop
+    μ-loop
+    loop-holds
+    element-copy-out-one
+    one-requires
+    cast-n
+    add-n
+    add-i
+    loop-less
+    loop-again
+    returns)

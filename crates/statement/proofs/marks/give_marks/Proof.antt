@@ -1,0 +1,105 @@
+-- The marks of the places passed are over the front of the codes, and each counter holds how many were left so far in its exchange grouping.
+-- Assumes nothing.
+use Prim.Native.Nat.{_-_, _≤_}
+use mathlib.Core.Path.{_≡_, refl, _∙_}
+use native.Mathlib.Omega.{arith}
+use lib.Dec.{eqb}
+use lib.ListN.{getD}
+use borrow.Author.Needs.{needs}
+use Rattle.wire.specs.Lists.{table, over}
+use Rattle.wire.specs.Sums.{count}
+use Rattle.wire.proofs.Lists.{joined-none, table-read, table-write, table-done}
+use Rattle.wire.proofs.Sums.{sum-none, sum-more, count-most}
+use Rattle.rules.specs.Marks.{Judged, left as leftIn, mark}
+use Rattle.rules.specs.Verdict.{version96}
+use Rattle.statement.specs.Parts.{held}
+use Rattle.statement.proofs.Waivers.{bit-in, mark-by}
+use Rattle.statement.proofs.marks.give_marks.Statement.{statement}
+use Rattle.statement.proofs.marks.give_marks.Tie as tie
+
+abbrev Inv-loop : tie.InvT-loop
+Inv-loop exempts groupings marks₀ left₀ i₀ marks left i =
+    (i ≤ 992)
+    × (marks ≡ over (table i (mark version96 (held marks₀ exempts groupings))) marks₀)
+    × (left .first ≡ count i (leftIn (held marks₀ exempts groupings) 1))
+    × (left .second ≡ count i (leftIn (held marks₀ exempts groupings) 2))
+
+abbrev μ-loop : tie.MeasureT-loop
+μ-loop exempts groupings marks₀ left₀ i₀ marks left i = 992 - i
+
+loop-holds : tie.Need-loop-holds Inv-loop μ-loop
+loop-holds c = rw (joined-none, sum-none, sum-none) (omega arith, refl, refl, refl)
+
+array-read-code : tie.Need-array-read-code Inv-loop μ-loop
+array-read-code c = search needs
+
+element-copy-out-exempt : tie.Need-element-copy-out-exempt Inv-loop μ-loop
+element-copy-out-exempt c = search needs
+
+element-copy-out-grouping : tie.Need-element-copy-out-grouping Inv-loop μ-loop
+element-copy-out-grouping c = search needs
+
+of-requires : tie.Need-of-requires Inv-loop μ-loop
+of-requires c κs = search needs
+
+mark-of-requires : tie.Need-mark-of-requires Inv-loop μ-loop
+mark-of-requires c κs = search needs
+
+array-write-marks : tie.Need-array-write-marks Inv-loop μ-loop
+array-write-marks c = search needs
+
+one-requires : tie.Need-one-requires Inv-loop μ-loop
+one-requires c κs = search needs
+
+with-requires : tie.Need-with-requires Inv-loop μ-loop
+with-requires c κs =
+    let j : Judged = held (c .before .before .before .before .before .before .before .args .t1) (c .before .before .before .before .before .before .before .args .exempts .now) (c .before .before .before .before .before .before .before .args .groupings .now) in
+    omega (arith, count-most (c .before .before .before .before .before .before .loop .i) (leftIn j 1), count-most (c .before .before .before .before .before .before .loop .i) (leftIn j 2), c .before .before .before .before .before .before .loop .inv, c .one .ensures .1)
+
+add-i : tie.Need-add-i Inv-loop μ-loop
+add-i c = search needs
+
+loop-less : tie.Need-loop-less Inv-loop μ-loop
+loop-less c = search needs
+
+loop-again : tie.Need-loop-again Inv-loop μ-loop
+loop-again c =
+    let a = c .before .before .before .before .before .before .before .before .args in
+    let v = c .before .before .before .before .before .before .before .loop .inv in
+    let i = c .before .before .before .before .before .before .before .loop .i in
+    let j : Judged = held (a .t1) (a .exempts .now) (a .groupings .now) in
+    let read : getD (c .before .before .before .before .before .before .before .loop .marks) i 0 ≡ getD (a .t1) i 0 = rw (v .1) (table-read (mark version96 j) i (a .t1) 0) in
+    let given : c .before .before .mark-of .result ≡ mark version96 j i
+    = rw (c .before .before .mark-of .ensures, read, c .before .before .before .of .ensures, v .2, v .3) (mark-by j i (c .before .before .before .before .before .before .before .before .pre i (c .before .before .before .before .before .before .loop-test .taken))) in (
+      search needs,
+      rw (v .1) (table-write (mark version96 j) i (c .before .before .mark-of .result) (a .t1) (omega (arith, c .before .before .before .before .before .before .before .before .good .0 .1 .0 .1)) given),
+      rw (c .with .ensures .0, v .2, c .before .one .ensures .0, read, sum-more, bit-in (eqb (j .grouping i) 1)),
+      rw (c .with .ensures .1, v .3, c .before .one .ensures .0, read, sum-more, bit-in (eqb (j .grouping i) 2)),
+    )
+
+returns : tie.Need-returns Inv-loop μ-loop
+returns c =
+    let a = c .before .before .args in
+    let e : c .before .loop .i ≡ 992 = omega arith in
+    rw e at (c .before .loop .inv .1)
+    ∙ table-done (mark version96 (held (a .t1) (a .exempts .now) (a .groupings .now))) 992 (a .t1) (c .before .before .good .0 .1 .0 .1)
+
+pub give-marks-spec : {M : Type 1} → statement M
+give-marks-spec =
+    tie.close
+    (tie.spec
+    Inv-loop
+    μ-loop
+    loop-holds
+    array-read-code
+    element-copy-out-exempt
+    element-copy-out-grouping
+    of-requires
+    mark-of-requires
+    array-write-marks
+    one-requires
+    with-requires
+    add-i
+    loop-less
+    loop-again
+    returns)

@@ -1,0 +1,63 @@
+-- The verdict on the sums of the counted days has a code, and the month is exempt where that is no violation; past the last group
+-- nothing is counted.
+-- Assumes nothing.
+use Prim.Native.Nat.{ℕ}
+use mathlib.Core.Bool.{true}
+use mathlib.Core.Path.{_≡_, sym}
+use borrow.Author.Needs.{needs}
+use Rattle.wire.proofs.Bools.{and-left}
+use Rattle.rules.specs.Month.{Cells, counted}
+use Rattle.schedule.specs.Calendar.{inEffect}
+use Rattle.book.specs.Book.{cells}
+use Rattle.statement.specs.Parts.{Small, sumsTo}
+use Rattle.statement.specs.Statement.{terms}
+use Rattle.statement.proofs.Exempt.{benchmark-range, cell-small, exempt-verdict, exempt-past}
+use Rattle.statement.proofs.month.is_exempt.Statement.{statement}
+use Rattle.statement.proofs.month.is_exempt.Tie as tie
+
+cast-if1 : tie.Need-cast-if1
+cast-if1 c = search needs
+
+returns : tie.Need-returns
+returns c =
+    let a = c .before .before .before .before .args in
+    sym (exempt-past (a .schedule .now) (a .l) (a .book .now) (a .firm) (a .g) (c .if1 .taken))
+
+group-of-requires : tie.Need-group-of-requires
+group-of-requires c κs = search needs
+
+cast-benchmark : tie.Need-cast-benchmark
+cast-benchmark c = search needs
+
+cast-month-sums : tie.Need-cast-month-sums
+cast-month-sums c = search needs
+
+month-sums-requires : tie.Need-month-sums-requires
+month-sums-requires c κs = search needs
+
+days-verdict-requires : tie.Need-days-verdict-requires
+days-verdict-requires c κs = search needs
+
+returns-2 : tie.Need-returns-2
+unfolding sumsTo
+returns-2 c =
+    let a = c .before .before .before .before .before .before .before .before .args in
+    let ok = c .before .before .before .before .before .before .before .before .pre .1 .1 in
+    let f : Cells = cells (a .l .groups) (a .book .now) (a .firm) in
+    let small : (day : ℕ) → counted (terms (a .schedule .now) (a .l)) f (a .g) day ≡ true → Small (f (a .g) day)
+    = λ day e. cell-small (a .schedule .now) f ok (a .g) day (c .before .before .before .before .before .before .before .before .pre .0) (and-left (inEffect (a .l .month) (a .l .closed) day) _ e) in
+    rw (c .days-verdict .ensures, c .before .month-sums .ensures, c .before .before .before .group-of .ensures)
+    (sym (exempt-verdict (terms (a .schedule .now) (a .l)) f (a .g) small (benchmark-range (a .schedule .now) (ok .checked) (a .g) (c .before .before .before .before .if1 .left))))
+
+pub is-exempt-spec : {M : Type 1} → statement M
+is-exempt-spec =
+    tie.close
+    (tie.spec
+    cast-if1
+    returns
+    group-of-requires
+    cast-benchmark
+    cast-month-sums
+    month-sums-requires
+    days-verdict-requires
+    returns-2)

@@ -1,0 +1,57 @@
+-- The walk has met no spoilt place before i, so the search from i has the same answer as from the first.
+-- Assumes nothing.
+use Prim.Native.Nat.{_-_, _≤_}
+use mathlib.Core.Path.{_≡_, sym, _∙_}
+use borrow.Author.Needs.{needs}
+use borrow.Author.Tests.{lt-ltb, le-ltb}
+use Rattle.wire.specs.Choose.{seek}
+use Rattle.wire.proofs.Choose.{seek-hit, seek-next, seek-end}
+use Rattle.book.specs.Book.{cells}
+use Rattle.statement.specs.Statement.{isSpoilt, spoilt}
+use Rattle.statement.proofs.month.is_spoilt.Statement.{statement}
+use Rattle.statement.proofs.month.is_spoilt.Tie as tie
+
+abbrev Inv-loop : tie.InvT-loop
+Inv-loop l book firm i₀ i = (i ≤ 992) × (seek 0 992 (isSpoilt l (cells (l .groups) book firm)) ≡ seek i 992 (isSpoilt l (cells (l .groups) book firm)))
+
+abbrev μ-loop : tie.MeasureT-loop
+μ-loop l book firm i₀ i = 992 - i
+
+loop-holds : tie.Need-loop-holds Inv-loop μ-loop
+loop-holds c = search needs
+
+spoilt-at-requires : tie.Need-spoilt-at-requires Inv-loop μ-loop
+spoilt-at-requires c κs = search needs
+
+returns : tie.Need-returns Inv-loop μ-loop
+unfolding spoilt
+returns c =
+    let here = c .before .before .before .loop .inv .1 ∙ seek-hit _ _ _ (c .before .before .loop-test .taken) (sym (c .before .spoilt-at .ensures) ∙ c .if1 .taken) in
+    simp (here, lt-ltb _ _ (c .before .before .loop-test .taken))
+
+add-i : tie.Need-add-i Inv-loop μ-loop
+add-i c = search needs
+
+loop-less : tie.Need-loop-less Inv-loop μ-loop
+loop-less c = search needs
+
+loop-again : tie.Need-loop-again Inv-loop μ-loop
+loop-again c = (search needs, c .before .before .before .loop .inv .1 ∙ seek-next _ _ _ (c .before .before .loop-test .taken) (sym (c .before .spoilt-at .ensures) ∙ c .if1 .left))
+
+returns-2 : tie.Need-returns-2 Inv-loop μ-loop
+unfolding spoilt
+returns-2 c = simp (c .before .loop .inv .1 ∙ seek-end _ _ _ (c .loop-test .left), le-ltb _ _ (c .loop-test .left))
+
+pub is-spoilt-spec : {M : Type 1} → statement M
+is-spoilt-spec =
+    tie.close
+    (tie.spec
+    Inv-loop
+    μ-loop
+    loop-holds
+    spoilt-at-requires
+    returns
+    add-i
+    loop-less
+    loop-again
+    returns-2)

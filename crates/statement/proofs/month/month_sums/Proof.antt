@@ -1,0 +1,83 @@
+-- The sums are those of the days so far. A counted day is in effect, so its totals are within the limit, and no sum overflows.
+-- Assumes nothing.
+use Prim.Native.Nat.{ℕ, _+_, _-_, _≤_}
+use mathlib.Core.Bool.{true}
+use mathlib.Core.Path.{_≡_, refl}
+use native.Mathlib.Omega.{arith}
+use denote.Ref.{now}
+use borrow.Author.Needs.{needs}
+use Rattle.wire.proofs.Bools.{and-left}
+use Rattle.rules.specs.Month.{Cells, counted}
+use Rattle.schedule.specs.Calendar.{inEffect}
+use Rattle.book.specs.Book.{cells}
+use Rattle.statement.specs.Parts.{Small, sumsTo}
+use Rattle.statement.specs.Statement.{terms}
+use Rattle.statement.proofs.Exempt.{cell-small, sums-none, sums-more, sums-within}
+use Rattle.statement.proofs.month.month_sums.Statement.{statement}
+use Rattle.statement.proofs.month.month_sums.Tie as tie
+
+abbrev Inv-loop : tie.InvT-loop
+Inv-loop schedule l book firm group sums₀ d₀ sums d = (d ≤ 31) × (sums ≡ sumsTo (terms schedule l) (cells (l .groups) book firm) group d)
+
+abbrev μ-loop : tie.MeasureT-loop
+μ-loop schedule l book firm group sums₀ d₀ sums d = 31 - d
+
+loop-holds : tie.Need-loop-holds Inv-loop μ-loop
+loop-holds c = rw sums-none (omega arith, refl)
+
+add-cell : tie.Need-add-cell Inv-loop μ-loop
+add-cell c = search needs
+
+cell-requires : tie.Need-cell-requires Inv-loop μ-loop
+cell-requires c κs = search needs
+
+add-in-effect : tie.Need-add-in-effect Inv-loop μ-loop
+add-in-effect c = search needs
+
+in-effect-requires : tie.Need-in-effect-requires Inv-loop μ-loop
+in-effect-requires c κs = search needs
+
+with-cell-requires : tie.Need-with-cell-requires Inv-loop μ-loop
+with-cell-requires c κs =
+    let a = c .before .before .before .before .before .before .before .args in
+    let f : Cells = cells (a .l .groups) (a .book .now) (a .firm) in
+    let small : (day : ℕ) → counted (terms (a .schedule .now) (a .l)) f (a .group) day ≡ true → Small (f (a .group) day)
+    = λ day e. cell-small (a .schedule .now) f (c .before .before .before .before .before .before .before .pre .1) (a .group) day (c .before .before .before .before .before .before .before .pre .0) (and-left (inEffect (a .l .month) (a .l .closed) day) _ e) in
+    let w = sums-within (terms (a .schedule .now) (a .l)) f (a .group) small (c .before .before .before .before .loop .d) in (
+      rw (c .before .before .before .before .loop .inv .1) (record { raw = omega (arith, w .raw); score = omega (arith, w .score); lots = omega (arith, w .lots); days = omega (arith, w .days) }),
+      rw (c .before .in-effect .ensures, c .before .before .cell .ensures) (small (c .before .before .before .before .loop .d + 1)),
+    )
+
+add-d : tie.Need-add-d Inv-loop μ-loop
+add-d c = search needs
+
+loop-less : tie.Need-loop-less Inv-loop μ-loop
+loop-less c = search needs
+
+loop-again : tie.Need-loop-again Inv-loop μ-loop
+loop-again c = (
+  search needs,
+  rw (c .with-cell .ensures, c .before .before .in-effect .ensures, c .before .before .before .cell .ensures, c .before .before .before .before .before .loop .inv .1, sums-more),
+)
+
+returns : tie.Need-returns Inv-loop μ-loop
+returns c =
+    let e : c .before .loop .d ≡ 31 = omega arith in
+    rw e at (c .before .loop .inv .1)
+
+pub month-sums-spec : {M : Type 1} → statement M
+month-sums-spec =
+    tie.close
+    (tie.spec
+    Inv-loop
+    μ-loop
+    loop-holds
+    add-cell
+    cell-requires
+    add-in-effect
+    in-effect-requires
+    with-cell-requires
+    add-d
+    loop-less
+    loop-again
+    returns)

@@ -1,0 +1,104 @@
+-- Demand 3 of the customer's letter, in the words of document 01 ("Demand 3 is a single claim about whole lists of posts"). S is the schedule,
+-- any bytes; C a firm's code; rs a list of posts, any byte strings. Proved in proofs/Demand3.antt: of every schedule and every firm that it lists.
+-- Assumes nothing.
+use Prim.Native.Nat.{ℕ, _+_, _*_, _≤_}
+use mathlib.Core.Bool.{Bool}
+use mathlib.Core.List.{List}
+use mathlib.Core.Path.{_≡_}
+use lib.ListN.{getD, take}
+use Rattle.wire.specs.Bytes.{u16At, u32At}
+use Rattle.rules.specs.Verdict.{version96}
+use Rattle.rules.specs.Month.{Cells}
+use Rattle.rules.specs.Marks.{Judged, violations, marked, billed, amount}
+use Rattle.rules.specs.Lighter.{LighterMonth}
+use Rattle.schedule.specs.Lookup.{firmPlace, firmListed}
+use Rattle.schedule.specs.Check.{Outcome, refused, good, given, checkOf}
+use Rattle.schedule.specs.declared.scan.Layout.{Layout}
+use Rattle.book.specs.Book.{openAnswer, openBook}
+use Rattle.book.specs.Accepted.{accepted, own, posted}
+use Rattle.statement.specs.Statement.{terms, monthOf, statementAnswer, statementOutput}
+
+-- what the schedule holds; nothing, where it is refused, and then open refuses every book
+abbrev pub layout : (S : List ℕ) → Layout
+layout S = given (checkOf S) (record { month = 0; closed = 0; groups = 0; firms = 0; start = 0 }) (λ l. l)
+
+module _ (S C : List ℕ) where
+  -- a firm that the schedule lists
+  abbrev pub isListed : Bool
+  isListed = firmListed S (layout S .start) (layout S .firms) C
+
+  -- Accepted totals of its cells come from the schedule and the list alone
+  abbrev pub totalsAfter : (rs : List (List ℕ)) → Cells
+  totalsAfter rs = accepted S rs (firmPlace S (layout S .start) (layout S .firms) C)
+
+  -- Codes, exemptions and marks are worked out from its accepted totals by the rules
+  abbrev pub monthAfter : (rs : List (List ℕ)) → Judged
+  monthAfter rs = monthOf S (layout S) (totalsAfter rs)
+
+  -- A firm's amount in a grouping is the sum of what the marks of its violations there cost
+  abbrev pub amountAfter : (rs : List (List ℕ)) → (e : ℕ) → ℕ
+  amountAfter rs e = amount version96 (monthAfter rs) e
+
+  -- A list starts from a book that open has just set to zero without a refusal; after it the statement takes the same schedule, the book as
+  -- it then stands, and an output that 23 doesn't refuse
+  pub record Run : Type 0 where
+    pub book : List ℕ
+    pub posts : List (List ℕ)
+    pub output : List ℕ
+    pub opened : openAnswer S book ≡ good tt
+    pub roomy : statementAnswer S (posted S (openBook S book) posts) C output ≡ refused 23 0 → ⊥
+
+  -- what the statement answers
+  abbrev pub answerOf : Run → Outcome ℕ
+  answerOf p = statementAnswer S (posted S (openBook S (p .book)) (p .posts)) C (p .output)
+
+  -- and the output as it leaves it
+  abbrev pub outputOf : Run → List ℕ
+  outputOf p = statementOutput S (posted S (openBook S (p .book)) (p .posts)) C (p .output)
+
+  -- traffic falls: on each day in effect and in each group the firm's accepted raw count and score are no larger and its accepted lots no
+  -- smaller after the second list, and no raw count above zero becomes zero
+  abbrev pub Falls : (first second : List (List ℕ)) → Type 0
+  Falls first second = LighterMonth (terms S (layout S)) (totalsAfter second) (totalsAfter first)
+
+-- the totals record of the grouping e that stands at a place of the bytes bs: each number is the one that document 01 says it is, of the
+-- month j
+pub record TotalsAt (bs : List ℕ) (at e : ℕ) (j : Judged) : Type 0 where
+  pub length : u16At bs at ≡ 18
+  pub kind : u16At bs (at + 2) ≡ 17
+  pub grouping : getD bs (at + 4) 0 ≡ e
+  -- violations = monthly + automatic + billed
+  pub adds : u16At bs (at + 6) ≡ u16At bs (at + 8) + u16At bs (at + 10) + u16At bs (at + 12)
+  -- violations is the number of the firm's violations in that grouping
+  pub violationsAre : u16At bs (at + 6) ≡ violations j e
+  -- monthly, automatic and billed are the numbers of those with mark 3, with mark 4, and with mark 1 or 2
+  pub monthlyAre : u16At bs (at + 8) ≡ marked version96 j e 3
+  pub automaticAre : u16At bs (at + 10) ≡ marked version96 j e 4
+  pub billedAre : u16At bs (at + 12) ≡ billed version96 j e
+  -- the dollars are the firm's amount there
+  pub dollarsAre : u32At bs (at + 14) ≡ amount version96 j e
+
+-- where the totals stand, after the lines of a month: twelve bytes for each violation
+abbrev pub afterLines : Judged → ℕ
+afterLines j = 12 * (violations j 1 + violations j 2)
+
+-- the statement is not refused, and in each grouping its totals add up, from the firm's accepted totals
+pub record AddsUp (S C : List ℕ) (p : Run S C) : Type 0 where
+  pub answered : answerOf S C p ≡ good (afterLines (monthAfter S C (p .posts)) + 36)
+  pub first : TotalsAt (outputOf S C p) (afterLines (monthAfter S C (p .posts))) 1 (monthAfter S C (p .posts))
+  pub second : TotalsAt (outputOf S C p) (afterLines (monthAfter S C (p .posts)) + 18) 2 (monthAfter S C (p .posts))
+
+-- Statement bytes are the bytes written, and their number; outputs may differ beyond them
+pub record SameBytes (S C : List ℕ) (p q : Run S C) : Type 0 where
+  pub written : ℕ
+  pub first : answerOf S C p ≡ good written
+  pub second : answerOf S C q ≡ good written
+  pub bytes : take written (outputOf S C p) ≡ take written (outputOf S C q)
+
+pub record Demand3 (S C : List ℕ) : Type 0 where
+  -- the firm's amount never rises in either exchange grouping as traffic falls, whatever the others sent
+  pub falls : (p q : Run S C) → Falls S C (p .posts) (q .posts) → (e : ℕ) → amountAfter S C (q .posts) e ≤ amountAfter S C (p .posts) e
+  -- after every such list, in each grouping of its statement, violations = monthly + automatic + billed, and the dollars are the firm's amount
+  pub adds-up : (p : Run S C) → AddsUp S C p
+  -- a firm whose own posts are the same list in both gets the same statement bytes, whatever the others sent
+  pub own-only : (p q : Run S C) → own C (p .posts) ≡ own C (q .posts) → SameBytes S C p q

@@ -1,0 +1,4 @@
+pub mod Lines
+pub mod Statement
+pub mod Parts
+pub mod Demand3

@@ -1,0 +1,46 @@
+// The groups of the schedule by their places.
+use schedule::Group;
+use schedule::group_at;
+use wire::u16_at;
+ghost use mathlib.Core.Path.{_≡_};
+ghost use Prim.Native.Nat.{_<_};
+ghost use Rattle.schedule.specs.Lookup.{groupAt};
+ghost use Rattle.statement.specs.Parts.{startsOf, groupingsOf};
+
+// Where the groups stand in the schedule; past the last group the walk goes on, and nobody asks where it comes to.
+pub(crate) fn group_starts(schedule: &[u8]) -> [usize; 32]
+    ensures { λ r. ⌜ r ≡ startsOf (now (schedule .entry)) ⌝ }
+{
+    let mut starts = [0usize; 32];
+    let mut at: usize = 10;
+    let mut g: usize = 0;
+    while g < 32 {
+        starts[g] = at;
+        at += u16_at(schedule, at) as usize;
+        g += 1;
+    }
+    starts
+}
+
+// The fields of group g.
+pub(crate) fn group_of(schedule: &[u8], starts: &[usize; 32], g: usize) -> Group
+    requires { ⌜ g < 32 ⌝ }
+    requires { ⌜ now starts ≡ startsOf (now schedule) ⌝ }
+    ensures { λ r. ⌜ r ≡ groupAt (now (schedule .entry)) g ⌝ }
+{
+    group_at(schedule, starts[g])
+}
+
+// The groups' exchange groupings.
+pub(crate) fn group_groupings(schedule: &[u8], starts: &[usize; 32]) -> [u8; 32]
+    requires { ⌜ now starts ≡ startsOf (now schedule) ⌝ }
+    ensures { λ r. ⌜ r ≡ groupingsOf (now (schedule .entry)) ⌝ }
+{
+    let mut groupings = [0u8; 32];
+    let mut g: usize = 0;
+    while g < 32 {
+        groupings[g] = group_of(schedule, starts, g).grouping;
+        g += 1;
+    }
+    groupings
+}
