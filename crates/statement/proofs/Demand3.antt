@@ -4,7 +4,7 @@
 -- Assumes nothing.
 use Prim.Native.Nat.{ℕ, zero, suc, _+_, _*_, _≤_, _<_}
 use mathlib.Core.Bool.{Bool, true, false, not, _&&_, and-true, and-false}
-use mathlib.Core.List.{List, [], _∷_, _++_, append-assoc}
+use mathlib.Core.List.{List, [], _++_, append-assoc}
 use mathlib.Core.Path.{_≡_, refl, sym, ap, ap₂, subst, _∙_}
 use native.Mathlib.Nat.{add-zero}
 use native.Mathlib.Omega.{arith}
@@ -17,7 +17,7 @@ use Rattle.wire.specs.Lists.{over}
 use Rattle.wire.specs.Sums.{bit, count}
 use Rattle.wire.proofs.Bools.{range}
 use Rattle.wire.proofs.Bytes.{u16-behind, u32-behind, u16-again, u32-again}
-use Rattle.wire.proofs.Choose.{Chosen, here, next, done, chosen, none-some}
+use Rattle.wire.proofs.Choose.{here, next, done, none-some}
 use Rattle.wire.proofs.Sums.{sum-same, sum-add, count-most}
 use Rattle.rules.specs.Verdict.{version96, isViolation}
 use Rattle.rules.specs.Month.{Cells}
@@ -34,9 +34,10 @@ use Rattle.book.specs.Accepted.{accepted, own, posted}
 use Rattle.book.proofs.Checked.{Sized, sized, book-good}
 use Rattle.book.proofs.Laws.{laws as bookLaws}
 use Rattle.statement.specs.Lines.{totalsOf, lines, having, tally, shown}
-use Rattle.statement.specs.Statement.{terms, monthOf, bytesOf, spoilt, need, firmCells, firmMonth, cause, statementAnswer, statementOutput}
+use Rattle.statement.specs.Statement.{terms, monthOf, bytesOf, spoilt, need, firmCells, firmMonth, statementAnswer, statementOutput}
 use Rattle.statement.specs.Parts.{Grouped}
-use Rattle.statement.specs.Demand3.{layout, isListed, totalsAfter, monthAfter, Run, outputOf, TotalsAt, afterLines, AddsUp, SameBytes, Demand3}
+use Rattle.statement.specs.Demand3.{layout, isListed, totalsAfter, monthAfter, amountAfter, Run, outputOf, Falls, TotalsAt, afterLines, AddsUp, NoDearer, SameBytes, Demand3}
+use Rattle.statement.proofs.Answers.{cause-after}
 use Rattle.statement.proofs.Shown.{lines-length, mark-some, marks-count, bytes-length, month-grouped}
 
 laws96 : Laws version96
@@ -75,6 +76,7 @@ module _ (xs ys : List ℕ) (e : ℕ) (j : Judged) where
         length = rw add-zero at (u16-there 0 18 (omega arith) refl);
         kind = u16-there 2 17 (omega arith) refl;
         grouping = getD-append-add xs totals 4 0;
+        zero = getD-append-add xs totals 5 0;
         adds = v ∙ laws96 .adds-up j e ∙ sym (ap₂ _+_ (ap₂ _+_ m a) b);
         violationsAre = v;
         monthlyAre = m;
@@ -139,20 +141,15 @@ record Written (S B C out : List ℕ) (j : Judged) : Type 0 where
   answer : statementAnswer S B C out ≡ good (length (bytesOf S j))
   output : statementOutput S B C out ≡ over (bytesOf S j) out
 
--- 1 to 8, 21 and 22 do not refuse a listed firm's statement
+-- where 1 to 8, 21 and 22 do not refuse, the statement is written, if 23 does not
 module _ (S B C out : List ℕ) (l : Layout) (checked : checkBook S (length B) ≡ good l)
     (listed : firmListed S (l .start) (l .firms) C ≡ true) (unspoilt : spoilt l (firmCells S B C l) ≡ false) where
-  cause-is : {n : ℕ} → Chosen ((ltb (length out) (need (firmMonth S B C l)), 23) ∷ []) 0 n → cause S B C l (length out) ≡ n
-  unfolding cause
-  cause-is h = chosen (next (rw listed) (next unspoilt h))
-
-  -- so it is written, if 23 does not
   written : (statementAnswer S B C out ≡ refused 23 0 → ⊥) → Written S B C out (firmMonth S B C l)
   written roomy = go (ltb (length out) (need (firmMonth S B C l))) refl
     where
       go : (b : Bool) → ltb (length out) (need (firmMonth S B C l)) ≡ b → Written S B C out (firmMonth S B C l)
-      go true t = absurd (roomy (rw (checked, cause-is (here t))))
-      go false t = let none = cause-is (next t done) in record { answer = rw (checked, none); output = rw (checked, none) }
+      go true t = absurd (roomy (rw (checked, cause-after S B C out l listed (next unspoilt (here t)))))
+      go false t = let none = cause-after S B C out l listed (next unspoilt (next t done)) in record { answer = rw (checked, none); output = rw (checked, none) }
 
 -- a book that open takes: the schedule is good, and the book has the numbers that it asks for
 opens : (S B : List ℕ) → openAnswer S B ≡ good tt → Sized S (length B) (layout S)
@@ -239,10 +236,21 @@ module _ (S C : List ℕ) (listed : isListed S C ≡ true) where
         bytes = front p _ refl ∙ e ∙ sym (front q _ (ap length (sym e)));
       }
 
+  lighter : (p q : Run S C) → Falls S C (p .posts) (q .posts) → (e : ℕ) → amountAfter S C (q .posts) e ≤ amountAfter S C (p .posts) e
+  lighter p q = laws96 .lighter-amount (terms S (layout S)) (totalsAfter S C (q .posts)) (totalsAfter S C (p .posts))
+
+  no-dearer : (p q : Run S C) → Falls S C (p .posts) (q .posts) → NoDearer S C p q
+  no-dearer p q h =
+      record {
+        first = rw (added q .first .dollarsAre, added p .first .dollarsAre) (lighter p q h 1);
+        second = rw (added q .second .dollarsAre, added p .second .dollarsAre) (lighter p q h 2);
+      }
+
 pub demand3 : (S C : List ℕ) → isListed S C ≡ true → Demand3 S C
 demand3 S C listed =
     record {
-      falls = λ p q h e. laws96 .lighter-amount (terms S (layout S)) (totalsAfter S C (q .posts)) (totalsAfter S C (p .posts)) h e;
+      falls = lighter S C listed;
+      no-dearer = no-dearer S C listed;
       adds-up = added S C listed;
       own-only = same S C listed;
     }

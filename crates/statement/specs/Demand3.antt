@@ -67,6 +67,7 @@ pub record TotalsAt (bs : List ℕ) (at e : ℕ) (j : Judged) : Type 0 where
   pub length : u16At bs at ≡ 18
   pub kind : u16At bs (at + 2) ≡ 17
   pub grouping : getD bs (at + 4) 0 ≡ e
+  pub zero : getD bs (at + 5) 0 ≡ 0
   -- violations = monthly + automatic + billed
   pub adds : u16At bs (at + 6) ≡ u16At bs (at + 8) + u16At bs (at + 10) + u16At bs (at + 12)
   -- violations is the number of the firm's violations in that grouping
@@ -88,6 +89,14 @@ pub record AddsUp (S C : List ℕ) (p : Run S C) : Type 0 where
   pub first : TotalsAt (outputOf S C p) (afterLines (monthAfter S C (p .posts))) 1 (monthAfter S C (p .posts))
   pub second : TotalsAt (outputOf S C p) (afterLines (monthAfter S C (p .posts)) + 18) 2 (monthAfter S C (p .posts))
 
+-- the dollars that stand in the totals of q are no more than those of p
+pub record NoDearer (S C : List ℕ) (p q : Run S C) : Type 0 where
+  pub first :
+      u32At (outputOf S C q) (afterLines (monthAfter S C (q .posts)) + 14) ≤ u32At (outputOf S C p) (afterLines (monthAfter S C (p .posts)) + 14)
+  pub second :
+      u32At (outputOf S C q) (afterLines (monthAfter S C (q .posts)) + 18 + 14)
+      ≤ u32At (outputOf S C p) (afterLines (monthAfter S C (p .posts)) + 18 + 14)
+
 -- Statement bytes are the bytes written, and their number; outputs may differ beyond them
 pub record SameBytes (S C : List ℕ) (p q : Run S C) : Type 0 where
   pub written : ℕ
@@ -98,6 +107,8 @@ pub record SameBytes (S C : List ℕ) (p q : Run S C) : Type 0 where
 pub record Demand3 (S C : List ℕ) : Type 0 where
   -- the firm's amount never rises in either exchange grouping as traffic falls, whatever the others sent
   pub falls : (p q : Run S C) → Falls S C (p .posts) (q .posts) → (e : ℕ) → amountAfter S C (q .posts) e ≤ amountAfter S C (p .posts) e
+  -- nor do the dollars in its statement
+  pub no-dearer : (p q : Run S C) → Falls S C (p .posts) (q .posts) → NoDearer S C p q
   -- after every such list, in each grouping of its statement, violations = monthly + automatic + billed, and the dollars are the firm's amount
   pub adds-up : (p : Run S C) → AddsUp S C p
   -- a firm whose own posts are the same list in both gets the same statement bytes, whatever the others sent

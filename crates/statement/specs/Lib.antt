@@ -2,3 +2,4 @@ pub mod Lines
 pub mod Statement
 pub mod Parts
 pub mod Demand3
+pub mod Example

@@ -1,0 +1,151 @@
+-- Computed examples: the statement of document 01's whole run, byte by byte, and one that has all four marks and both exchange groupings; a month in
+-- which traffic falls and the amount with it; and one that shows why demand 3 asks that no raw count above zero becomes zero.
+-- Assumes nothing.
+use Prim.Native.Nat.{ℕ, _+_}
+use mathlib.Core.Bool.{Bool, _&&_}
+use mathlib.Core.List.{List, [], _∷_, _++_}
+use mathlib.Core.Path.{_≡_, refl}
+use lib.Dec.{leb}
+use Rattle.wire.specs.Bytes.{u16At, u32At, u16Bytes, u32Bytes}
+use Rattle.wire.specs.Choose.{choose, all, seekIn}
+use Rattle.wire.specs.Lists.{joined, table}
+use Rattle.wire.specs.Sums.{sum, count}
+use Rattle.rules.specs.Verdict.{code}
+use Rattle.rules.specs.declared.Totals.{Totals}
+use Rattle.schedule.specs.Calendar.{daysIn}
+use Rattle.schedule.specs.Counted.{contractListed, contractCounted, inFront, isAfter, isCounted, contractIs}
+use Rattle.schedule.specs.Fields.{isCode, headOk, listed, contract, before, contractBad, contractsOk, groupOk, groupFields, firmOk}
+use Rattle.schedule.specs.Lookup.{groupStart, groupIs, firmIs, groupListed, firmListed}
+use Rattle.schedule.specs.Check.{Outcome, good, byKind, isDue, lengthOk, isFull, fieldsOk, isRepeated, cause as recordCause, after, ending, scan, checkOf}
+use Rattle.book.specs.Activity.{totalsOf}
+use Rattle.book.specs.Book.{checkBook, openBook}
+use Rattle.book.specs.Post.{cause as postCause}
+use Rattle.book.specs.Accepted.{accepted, posted}
+use Rattle.statement.specs.Lines.{lineAt, tally, shown}
+use Rattle.statement.specs.Statement.{spoilt, cause, statementAnswer, statementOutput}
+use Rattle.statement.specs.Demand3.{totalsAfter, amountAfter}
+
+-- a head: October 2019, with these days not in effect
+abbrev head : (closed : ℕ) → List ℕ
+head closed = u16Bytes 10 ++ u16Bytes 1 ++ u16Bytes 24237 ++ u32Bytes closed
+
+-- a group: of this code and exchange grouping, k 64, B 1,000, front 4,095, extra 0, contract 24,239
+abbrev group : (first second grouping : ℕ) → List ℕ
+group first second grouping =
+    u16Bytes 18 ++ u16Bytes 2 ++ (first ∷ second ∷ grouping ∷ 64 ∷ []) ++ u32Bytes 1000 ++ u16Bytes 4095 ++ u16Bytes 0 ++ u16Bytes 24239
+
+-- a firm: ABC
+abbrev ABC : List ℕ
+ABC = 65 ∷ 66 ∷ 67 ∷ []
+
+-- document 01's schedule: every day in effect, ES, ABC
+abbrev schedule : List ℕ
+schedule = head 0 ++ group 69 83 1 ++ (u16Bytes 7 ++ u16Bytes 3 ++ ABC)
+
+-- a record of ABC in a group: new orders, modifications, cancellations and lots
+abbrev activity : (first second day new modified cancelled lots : ℕ) → List ℕ
+activity first second day new modified cancelled lots =
+    u16Bytes 44 ++ u16Bytes 4 ++ ABC ++ (day ∷ first ∷ second ∷ []) ++ u16Bytes 24239
+    ++ u32Bytes new ++ u32Bytes modified ++ u32Bytes cancelled ++ u32Bytes 0 ++ u32Bytes 0 ++ u32Bytes 0 ++ u32Bytes 0 ++ u32Bytes lots
+
+-- raw and score of the fifth marked day (122,000, 143,000), with so many lots: code 4 with 10,000, a pass with 20,000
+abbrev fifth : (first second day lots : ℕ) → List ℕ
+fifth first second day lots = activity first second day 39000 53000 30000 lots
+
+-- the ninth marked day (60,001, 60,001, 1,000): code 5
+abbrev ninth : (first second day : ℕ) → List ℕ
+ninth first second day = activity first second day 0 60001 0 1000
+
+-- document 01's whole run
+abbrev run : List (List ℕ)
+run = fifth 69 83 1 10000 ∷ fifth 69 83 2 10000 ∷ fifth 69 83 3 10000 ∷ ninth 69 83 4 ∷ []
+
+-- its statement: two days automatic, one billed, one severe; grouping 1: 4 0 2 2 2000; grouping 2: 0 0 0 0 0
+abbrev runBytes : List ℕ
+runBytes =
+    (12 ∷ 0 ∷ 16 ∷ 0 ∷ 1 ∷ 69 ∷ 83 ∷ 4 ∷ 0 ∷ 0 ∷ 0 ∷ 0 ∷ [])
+    ++ (12 ∷ 0 ∷ 16 ∷ 0 ∷ 2 ∷ 69 ∷ 83 ∷ 4 ∷ 0 ∷ 0 ∷ 0 ∷ 0 ∷ [])
+    ++ (12 ∷ 0 ∷ 16 ∷ 0 ∷ 3 ∷ 69 ∷ 83 ∷ 2 ∷ 232 ∷ 3 ∷ 0 ∷ 0 ∷ [])
+    ++ (12 ∷ 0 ∷ 16 ∷ 0 ∷ 4 ∷ 69 ∷ 83 ∷ 1 ∷ 232 ∷ 3 ∷ 0 ∷ 0 ∷ [])
+    ++ (18 ∷ 0 ∷ 17 ∷ 0 ∷ 1 ∷ 0 ∷ 4 ∷ 0 ∷ 0 ∷ 0 ∷ 2 ∷ 0 ∷ 2 ∷ 0 ∷ 208 ∷ 7 ∷ 0 ∷ 0 ∷ [])
+    ++ (18 ∷ 0 ∷ 17 ∷ 0 ∷ 2 ∷ 0 ∷ 0 ∷ 0 ∷ 0 ∷ 0 ∷ 0 ∷ 0 ∷ 0 ∷ 0 ∷ 0 ∷ 0 ∷ 0 ∷ 0 ∷ [])
+
+-- day 2 not in effect; ES and ZC of grouping 1, CL of grouping 2
+abbrev threeGroups : List ℕ
+threeGroups = head 2 ++ group 69 83 1 ++ group 67 76 2 ++ group 90 67 1 ++ (u16Bytes 7 ++ u16Bytes 3 ++ ABC)
+
+-- one failing day more in ES on the day not in effect, one in CL, and one in ZC, which has many lots on another day
+abbrev manyMarks : List (List ℕ)
+manyMarks =
+    fifth 69 83 1 10000 ∷ fifth 69 83 2 10000 ∷ fifth 69 83 3 10000 ∷ fifth 69 83 4 10000 ∷ ninth 69 83 5
+    ∷ fifth 67 76 1 10000 ∷ fifth 90 67 1 10000 ∷ activity 90 67 6 1 0 0 1000000 ∷ []
+
+-- by day, then by the group's place: the waivers of CL are its own, and ZC is exempt; grouping 1: 5 1 2 2 2000; grouping 2: 1 0 1 0 0
+abbrev manyBytes : List ℕ
+manyBytes =
+    (12 ∷ 0 ∷ 16 ∷ 0 ∷ 1 ∷ 69 ∷ 83 ∷ 4 ∷ 0 ∷ 0 ∷ 0 ∷ 0 ∷ [])
+    ++ (12 ∷ 0 ∷ 16 ∷ 0 ∷ 1 ∷ 67 ∷ 76 ∷ 4 ∷ 0 ∷ 0 ∷ 0 ∷ 0 ∷ [])
+    ++ (12 ∷ 0 ∷ 16 ∷ 0 ∷ 1 ∷ 90 ∷ 67 ∷ 3 ∷ 0 ∷ 0 ∷ 0 ∷ 0 ∷ [])
+    ++ (12 ∷ 0 ∷ 16 ∷ 0 ∷ 3 ∷ 69 ∷ 83 ∷ 4 ∷ 0 ∷ 0 ∷ 0 ∷ 0 ∷ [])
+    ++ (12 ∷ 0 ∷ 16 ∷ 0 ∷ 4 ∷ 69 ∷ 83 ∷ 2 ∷ 232 ∷ 3 ∷ 0 ∷ 0 ∷ [])
+    ++ (12 ∷ 0 ∷ 16 ∷ 0 ∷ 5 ∷ 69 ∷ 83 ∷ 1 ∷ 232 ∷ 3 ∷ 0 ∷ 0 ∷ [])
+    ++ (18 ∷ 0 ∷ 17 ∷ 0 ∷ 1 ∷ 0 ∷ 5 ∷ 0 ∷ 1 ∷ 0 ∷ 2 ∷ 0 ∷ 2 ∷ 0 ∷ 208 ∷ 7 ∷ 0 ∷ 0 ∷ [])
+    ++ (18 ∷ 0 ∷ 17 ∷ 0 ∷ 2 ∷ 0 ∷ 1 ∷ 0 ∷ 0 ∷ 0 ∷ 1 ∷ 0 ∷ 0 ∷ 0 ∷ 0 ∷ 0 ∷ 0 ∷ 0 ∷ [])
+
+-- what the statement answers after a list, to a book of n numbers and an output of 120 sevens
+abbrev answers : (S : List ℕ) → (n : ℕ) → List (List ℕ) → Outcome ℕ
+answers S n rs = statementAnswer S (posted S (openBook S (table n (λ i. 9))) rs) ABC (table 120 (λ i. 7))
+
+-- and what it leaves in that output
+abbrev leaves : (S : List ℕ) → (n : ℕ) → List (List ℕ) → List ℕ
+leaves S n rs = statementOutput S (posted S (openBook S (table n (λ i. 9))) rs) ABC (table 120 (λ i. 7))
+
+-- the run with more lots on day 3
+abbrev eased : List (List ℕ)
+eased = fifth 69 83 1 10000 ∷ fifth 69 83 2 10000 ∷ fifth 69 83 3 20000 ∷ ninth 69 83 4 ∷ []
+
+-- three failing days, and one with a single message and many lots
+abbrev excused : List (List ℕ)
+excused = fifth 69 83 1 10000 ∷ fifth 69 83 2 10000 ∷ fifth 69 83 3 10000 ∷ activity 69 83 4 1 0 0 1000000 ∷ []
+
+-- the same without that message
+abbrev silent : List (List ℕ)
+silent = fifth 69 83 1 10000 ∷ fifth 69 83 2 10000 ∷ fifth 69 83 3 10000 ∷ activity 69 83 4 0 0 0 1000000 ∷ []
+
+-- raw and score no larger and lots no smaller
+abbrev isLighter : (t′ t : Totals) → Bool
+isLighter t′ t = leb (t′ .raw) (t .raw) && (leb (t′ .score) (t .score) && leb (t .lots) (t′ .lots))
+
+-- on how many of the 31 days the second list is lighter than the first, in the first group
+abbrev lighterDays : (first second : List (List ℕ)) → ℕ
+lighterDays first second = count 31 (λ i. isLighter (totalsAfter schedule ABC second 0 (i + 1)) (totalsAfter schedule ABC first 0 (i + 1)))
+
+pub record Example : Type 0 where
+  pub runAnswer : answers schedule 93 run ≡ good 84
+  pub runOutput : leaves schedule 93 run ≡ runBytes ++ table 36 (λ i. 7)
+  pub manyAnswer : answers threeGroups 279 manyMarks ≡ good 108
+  pub manyOutput : leaves threeGroups 279 manyMarks ≡ manyBytes ++ table 12 (λ i. 7)
+  -- traffic falls: with more lots on day 3 it passes, and is billed no longer
+  pub easedLighter : lighterDays run eased ≡ 31
+  pub runAmount : amountAfter schedule ABC run 1 ≡ 2000
+  pub easedAmount : amountAfter schedule ABC eased 1 ≡ 1000
+  -- where a raw count above zero becomes zero the amount may rise: lots of a day without messages are not summed, and the exemption is lost
+  pub silentLighter : lighterDays excused silent ≡ 31
+  pub excusedAmount : amountAfter schedule ABC excused 1 ≡ 0
+  pub silentAmount : amountAfter schedule ABC silent 1 ≡ 1000
+
+pub example : Example
+unfolding accepted posted checkBook checkOf scan ending after recordCause postCause isRepeated fieldsOk isFull lengthOk isDue byKind firmListed groupListed firmIs groupIs groupStart firmOk groupOk contractsOk contractBad before contract listed headOk isCode contractIs isCounted isAfter inFront contractCounted contractListed groupFields daysIn sum joined seekIn all choose u32At u16At totalsOf code spoilt cause lineAt tally shown
+example =
+    record {
+      runAnswer = refl;
+      runOutput = refl;
+      manyAnswer = refl;
+      manyOutput = refl;
+      easedLighter = refl;
+      runAmount = refl;
+      easedAmount = refl;
+      silentLighter = refl;
+      excusedAmount = refl;
+      silentAmount = refl;
+    }
