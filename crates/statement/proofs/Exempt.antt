@@ -18,7 +18,7 @@ use Rattle.rules.specs.Verdict.{version96, isViolation, limit, fits, verdict}
 use Rattle.rules.specs.Month.{Terms, Cells, counted, overCounted, days, sums, exempt}
 use Rattle.rules.specs.Marks.{places, dayOf, groupOf, codeAt}
 use Rattle.rules.specs.declared.Totals.{Totals}
-use Rattle.rules.proofs.Verdict.{code-most, fitting, exempt-code, verdict-code}
+use Rattle.rules.proofs.Verdict.{code-most, Fitting, fitting, exempt-code, verdict-code}
 use Rattle.schedule.specs.Calendar.{daysIn, inEffect}
 use Rattle.schedule.specs.Lookup.{groupAt, bodyAt, groupStart}
 use Rattle.schedule.specs.Check.{good, checkOf}
@@ -28,7 +28,7 @@ use Rattle.schedule.proofs.Good.{good-schedule}
 use Rattle.schedule.proofs.Laws.{days-most}
 use Rattle.book.specs.Book.{none, cells}
 use Rattle.statement.specs.Statement.{terms, isSpoilt, spoilt}
-use Rattle.statement.specs.Parts.{Sound, Small, Within, withDay, sumsTo}
+use Rattle.statement.specs.Parts.{Unspoilt, Within, withDay, sumsTo}
 use Rattle.statement.specs.declared.month.MonthSums.{MonthSums}
 
 -- the benchmark of a listed group is in range
@@ -36,7 +36,7 @@ pub benchmark-range : (S : List ℕ) {l : Layout} → checkOf S ≡ good l → (
 benchmark-range S e g h = group-in-range (bodyAt S (groupStart S g)) (good-schedule S e .groups g h) .benchmark
 
 -- a cell of a day in effect stands at one of the places that 22 looks at
-module _ (S : List ℕ) {l : Layout} (c : Cells) (ok : Sound S l c) (g day : ℕ) (h : g < 32) (on : inEffect (l .month) (l .closed) day ≡ true) where
+module _ (S : List ℕ) {l : Layout} (c : Cells) (ok : Unspoilt S l c) (g day : ℕ) (h : g < 32) (on : inEffect (l .month) (l .closed) day ≡ true) where
   pub cell-fits : fits 1 (c g day) ≡ true
   unfolding spoilt
   cell-fits =
@@ -48,11 +48,8 @@ module _ (S : List ℕ) {l : Layout} (c : Cells) (ok : Sound S l c) (g day : ℕ
       let z = none-at places (isSpoilt l c) (ok .unspoilt) i (omega arith) in
       not-false _ (simp (p, q, le-leb _ _ (r .most)) at z)
 
-  pub cell-small : Small (c g day)
-  cell-small = let f = fitting 1 (c g day) cell-fits in record { raw = f .raw; score = f .score; lots = f .lots }
-
 -- so the verdict on a cell of a listed group, on a day in effect, is the place's code
-pub verdict-place : (S : List ℕ) {l : Layout} (c : Cells) → Sound S l c → (i : ℕ)
+pub verdict-place : (S : List ℕ) {l : Layout} (c : Cells) → Unspoilt S l c → (i : ℕ)
     → (ltb (groupOf i) (l .groups) && inEffect (l .month) (l .closed) (dayOf i)) ≡ true
     → verdict 1 (c (groupOf i) (dayOf i)) (groupAt S (groupOf i) .benchmark) ≡ codeAt version96 (terms S l) c i
 verdict-place S {l} c ok i e =
@@ -93,7 +90,10 @@ module _ (s : Terms) (c : Cells) (g : ℕ) where
   days-under : (n : ℕ) → overCounted s c n g (λ t. 1) ≤ n
   days-under n = omega (arith, sum-most n 1 (λ i. cond (counted s c g (i + 1)) 1 0) (λ i h. cond-le (counted s c g (i + 1)) (lit≤ tt) (lit≤ tt)))
 
-  module _ (small : (day : ℕ) → counted s c g day ≡ true → Small (c g day)) where
+  module _ (fit : (day : ℕ) → counted s c g day ≡ true → fits 1 (c g day) ≡ true) where
+    small : (day : ℕ) → counted s c g day ≡ true → Fitting 1 (c g day)
+    small day e = fitting 1 (c g day) (fit day e)
+
     pub sums-within : (n : ℕ) → Within n (sumsTo s c g n)
     unfolding sumsTo
     sums-within n =

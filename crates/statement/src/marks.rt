@@ -14,7 +14,7 @@ ghost use Rattle.rules.specs.Marks.{mark};
 ghost use Rattle.schedule.specs.Lookup.{groupAt};
 ghost use Rattle.book.specs.Book.{cells};
 ghost use Rattle.statement.specs.Statement.{monthOf};
-ghost use Rattle.statement.specs.Parts.{startsOf, Sound, markOf, held, Grouped, groupingsOf};
+ghost use Rattle.statement.specs.Parts.{startsOf, Unspoilt, markOf, held, Grouped, groupingsOf};
 
 // The mark of a code, where so many were left before it in its exchange grouping.
 fn mark_of(code: u8, exempt: bool, before: u16) -> u8
@@ -116,7 +116,7 @@ pub(crate) fn firm_marks(
 ) -> [u8; 992]
     requires { ⌜ now starts ≡ startsOf (now schedule) ⌝ }
     requires { ⌜ now groupings ≡ groupingsOf (now schedule) ⌝ }
-    requires { ⌜ Sound (now schedule) l (cells (l .groups) (now book) firm) ⌝ }
+    requires { ⌜ Unspoilt (now schedule) l (cells (l .groups) (now book) firm) ⌝ }
     ensures { λ r. ⌜ r ≡ table 992 (mark version96 (monthOf (now (schedule .entry)) l (cells (l .groups) (now (book .entry)) firm))) ⌝ }
 {
     let codes = fill_codes(schedule, l, book, firm, starts);

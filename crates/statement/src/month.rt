@@ -17,10 +17,10 @@ ghost use Rattle.rules.specs.Marks.{codeAt};
 ghost use Rattle.schedule.specs.Check.{good, checkOf};
 ghost use Rattle.book.specs.Book.{cells};
 ghost use Rattle.statement.specs.Statement.{terms, isSpoilt, spoilt};
-ghost use Rattle.statement.specs.Parts.{Small, Within, withDay, sumsTo, startsOf, Sound};
+ghost use Rattle.statement.specs.Parts.{Within, withDay, sumsTo, startsOf, Unspoilt};
 
 // Whether the totals of a day are within the limit.
-fn is_small(t: Totals) -> bool
+fn is_within_limit(t: Totals) -> bool
     ensures { λ r. ⌜ r ≡ fits 1 t ⌝ }
 {
     (t.raw <= LIMIT) & (t.score <= LIMIT) & (t.lots <= LIMIT)
@@ -33,7 +33,7 @@ fn spoilt_at(l: Layout, book: &[u64], firm: u8, i: usize) -> bool
 {
     let day = (i / 32 + 1) as u8;
     let t = cell(book, l.groups, firm, (i % 32) as u8, day);
-    (day <= days_in(l.month)) & !is_small(t)
+    (day <= days_in(l.month)) & !is_within_limit(t)
 }
 
 // Refusal 22: whether a number of the firm, days of the month, is above the limit.
@@ -51,18 +51,18 @@ pub(crate) fn is_spoilt(l: Layout, book: &[u64], firm: u8) -> bool
 }
 
 // The sums of raw, score and lots over the counted days, and how many these are.
-pub struct MonthSums {
-    pub raw: u64,
-    pub score: u64,
-    pub lots: u64,
-    pub days: u64,
+struct MonthSums {
+    raw: u64,
+    score: u64,
+    lots: u64,
+    days: u64,
 }
 
 impl MonthSums {
     // The sums with a counted day more.
     fn with_day(self, t: Totals) -> MonthSums
         requires { ⌜ Within 30 self ⌝ }
-        requires { ⌜ Small t ⌝ }
+        requires { ⌜ fits 1 t ≡ true ⌝ }
         ensures { λ r. ⌜ r ≡ withDay self t ⌝ }
     {
         MonthSums {
@@ -77,7 +77,7 @@ impl MonthSums {
 // The sums with a day, which is counted or not.
 fn with_cell(sums: MonthSums, counted: bool, t: Totals) -> MonthSums
     requires { ⌜ Within 30 sums ⌝ }
-    requires { ⌜ (counted ≡ true → Small t) ⌝ }
+    requires { ⌜ (counted ≡ true → fits 1 t ≡ true) ⌝ }
     ensures { λ r. ⌜ r ≡ cond counted (withDay sums t) sums ⌝ }
 {
     if counted {
@@ -89,7 +89,7 @@ fn with_cell(sums: MonthSums, counted: bool, t: Totals) -> MonthSums
 // The sums of a group of the firm over the month.
 fn month_sums(schedule: &[u8], l: Layout, book: &[u64], firm: u8, group: u8) -> MonthSums
     requires { ⌜ group < 32 ⌝ }
-    requires { ⌜ Sound (now schedule) l (cells (l .groups) (now book) firm) ⌝ }
+    requires { ⌜ Unspoilt (now schedule) l (cells (l .groups) (now book) firm) ⌝ }
     ensures { λ r. ⌜ r ≡ sumsTo (terms (now (schedule .entry)) l) (cells (l .groups) (now (book .entry)) firm) group 31 ⌝ }
 {
     let mut sums = MonthSums {
@@ -119,7 +119,7 @@ fn is_exempt(
 ) -> bool
     requires { ⌜ g < 32 ⌝ }
     requires { ⌜ now starts ≡ startsOf (now schedule) ⌝ }
-    requires { ⌜ Sound (now schedule) l (cells (l .groups) (now book) firm) ⌝ }
+    requires { ⌜ Unspoilt (now schedule) l (cells (l .groups) (now book) firm) ⌝ }
     ensures { λ r. ⌜ r ≡ exempt version96 (terms (now (schedule .entry)) l) (cells (l .groups) (now (book .entry)) firm) g ⌝ }
 {
     if (l.groups as usize) <= g {
@@ -145,7 +145,7 @@ pub(crate) fn fill_exempts(
     starts: &[usize; 32],
 ) -> [bool; 32]
     requires { ⌜ now starts ≡ startsOf (now schedule) ⌝ }
-    requires { ⌜ Sound (now schedule) l (cells (l .groups) (now book) firm) ⌝ }
+    requires { ⌜ Unspoilt (now schedule) l (cells (l .groups) (now book) firm) ⌝ }
     ensures { λ r. ⌜ r ≡ table 32 (exempt version96 (terms (now (schedule .entry)) l) (cells (l .groups) (now (book .entry)) firm)) ⌝ }
 {
     let mut exempts = [false; 32];
@@ -168,7 +168,7 @@ fn place_code(
 ) -> u8
     requires { ⌜ i < 992 ⌝ }
     requires { ⌜ now starts ≡ startsOf (now schedule) ⌝ }
-    requires { ⌜ Sound (now schedule) l (cells (l .groups) (now book) firm) ⌝ }
+    requires { ⌜ Unspoilt (now schedule) l (cells (l .groups) (now book) firm) ⌝ }
     ensures { λ r. ⌜ r ≡ codeAt version96 (terms (now (schedule .entry)) l) (cells (l .groups) (now (book .entry)) firm) i ⌝ }
 {
     let g = i % 32;
@@ -190,7 +190,7 @@ pub(crate) fn fill_codes(
     starts: &[usize; 32],
 ) -> [u8; 992]
     requires { ⌜ now starts ≡ startsOf (now schedule) ⌝ }
-    requires { ⌜ Sound (now schedule) l (cells (l .groups) (now book) firm) ⌝ }
+    requires { ⌜ Unspoilt (now schedule) l (cells (l .groups) (now book) firm) ⌝ }
     ensures { λ r. ⌜ r ≡ table 992 (codeAt version96 (terms (now (schedule .entry)) l) (cells (l .groups) (now (book .entry)) firm)) ⌝ }
 {
     let mut codes = [0u8; 992];

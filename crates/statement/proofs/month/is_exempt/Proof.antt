@@ -7,11 +7,12 @@ use mathlib.Core.Path.{_≡_, sym}
 use borrow.Author.Needs.{needs}
 use Rattle.wire.proofs.Bools.{and-left}
 use Rattle.rules.specs.Month.{Cells, counted}
+use Rattle.rules.specs.Verdict.{fits}
 use Rattle.schedule.specs.Calendar.{inEffect}
 use Rattle.book.specs.Book.{cells}
-use Rattle.statement.specs.Parts.{Small, sumsTo}
+use Rattle.statement.specs.Parts.{sumsTo}
 use Rattle.statement.specs.Statement.{terms}
-use Rattle.statement.proofs.Exempt.{benchmark-range, cell-small, exempt-verdict, exempt-past}
+use Rattle.statement.proofs.Exempt.{benchmark-range, cell-fits, exempt-verdict, exempt-past}
 use Rattle.statement.proofs.month.is_exempt.Statement.{statement}
 use Rattle.statement.proofs.month.is_exempt.Tie as tie
 
@@ -44,10 +45,10 @@ returns-2 c =
     let a = c .before .before .before .before .before .before .before .before .args in
     let ok = c .before .before .before .before .before .before .before .before .pre .1 .1 in
     let f : Cells = cells (a .l .groups) (a .book .now) (a .firm) in
-    let small : (day : ℕ) → counted (terms (a .schedule .now) (a .l)) f (a .g) day ≡ true → Small (f (a .g) day)
-    = λ day e. cell-small (a .schedule .now) f ok (a .g) day (c .before .before .before .before .before .before .before .before .pre .0) (and-left (inEffect (a .l .month) (a .l .closed) day) _ e) in
+    let fit : (day : ℕ) → counted (terms (a .schedule .now) (a .l)) f (a .g) day ≡ true → fits 1 (f (a .g) day) ≡ true
+    = λ day e. cell-fits (a .schedule .now) f ok (a .g) day (c .before .before .before .before .before .before .before .before .pre .0) (and-left (inEffect (a .l .month) (a .l .closed) day) _ e) in
     rw (c .days-verdict .ensures, c .before .month-sums .ensures, c .before .before .before .group-of .ensures)
-    (sym (exempt-verdict (terms (a .schedule .now) (a .l)) f (a .g) small (benchmark-range (a .schedule .now) (ok .checked) (a .g) (c .before .before .before .before .if1 .left))))
+    (sym (exempt-verdict (terms (a .schedule .now) (a .l)) f (a .g) fit (benchmark-range (a .schedule .now) (ok .checked) (a .g) (c .before .before .before .before .if1 .left))))
 
 pub is-exempt-spec : {M : Type 1} → statement M
 is-exempt-spec =

@@ -8,11 +8,12 @@ use denote.Ref.{now}
 use borrow.Author.Needs.{needs}
 use Rattle.wire.proofs.Bools.{and-left}
 use Rattle.rules.specs.Month.{Cells, counted}
+use Rattle.rules.specs.Verdict.{fits}
 use Rattle.schedule.specs.Calendar.{inEffect}
 use Rattle.book.specs.Book.{cells}
-use Rattle.statement.specs.Parts.{Small, sumsTo}
+use Rattle.statement.specs.Parts.{sumsTo}
 use Rattle.statement.specs.Statement.{terms}
-use Rattle.statement.proofs.Exempt.{cell-small, sums-none, sums-more, sums-within}
+use Rattle.statement.proofs.Exempt.{cell-fits, sums-none, sums-more, sums-within}
 use Rattle.statement.proofs.month.month_sums.Statement.{statement}
 use Rattle.statement.proofs.month.month_sums.Tie as tie
 
@@ -41,11 +42,11 @@ with-cell-requires : tie.Need-with-cell-requires Inv-loop μ-loop
 with-cell-requires c κs =
     let a = c .before .before .before .before .before .before .before .args in
     let f : Cells = cells (a .l .groups) (a .book .now) (a .firm) in
-    let small : (day : ℕ) → counted (terms (a .schedule .now) (a .l)) f (a .group) day ≡ true → Small (f (a .group) day)
-    = λ day e. cell-small (a .schedule .now) f (c .before .before .before .before .before .before .before .pre .1) (a .group) day (c .before .before .before .before .before .before .before .pre .0) (and-left (inEffect (a .l .month) (a .l .closed) day) _ e) in
-    let w = sums-within (terms (a .schedule .now) (a .l)) f (a .group) small (c .before .before .before .before .loop .d) in (
+    let fit : (day : ℕ) → counted (terms (a .schedule .now) (a .l)) f (a .group) day ≡ true → fits 1 (f (a .group) day) ≡ true
+    = λ day e. cell-fits (a .schedule .now) f (c .before .before .before .before .before .before .before .pre .1) (a .group) day (c .before .before .before .before .before .before .before .pre .0) (and-left (inEffect (a .l .month) (a .l .closed) day) _ e) in
+    let w = sums-within (terms (a .schedule .now) (a .l)) f (a .group) fit (c .before .before .before .before .loop .d) in (
       rw (c .before .before .before .before .loop .inv .1) (record { raw = omega (arith, w .raw); score = omega (arith, w .score); lots = omega (arith, w .lots); days = omega (arith, w .days) }),
-      rw (c .before .in-effect .ensures, c .before .before .cell .ensures) (small (c .before .before .before .before .loop .d + 1)),
+      rw (c .before .in-effect .ensures, c .before .before .cell .ensures) (fit (c .before .before .before .before .loop .d + 1)),
     )
 
 add-d : tie.Need-add-d Inv-loop μ-loop
