@@ -22,7 +22,7 @@ use Rattle.schedule.specs.Lookup.{groupAt, firmListed}
 use Rattle.schedule.specs.declared.scan.Layout.{Layout}
 use Rattle.book.specs.Book.{cells, checkBook}
 use Rattle.statement.specs.Lines.{shown}
-use Rattle.statement.specs.Statement.{monthOf, bytesOf, spoilt, need, causes, cause, StatementIs}
+use Rattle.statement.specs.Statement.{monthOf, statementBytes, spoilt, need, causes, cause, StatementIs}
 use Rattle.statement.specs.Parts.{ListedAt, groupingsOf, heldMark, heldGrouping}
 use Rattle.statement.specs.declared.Stated.the-variants as stated
 use Rattle.statement.proofs.Shown.{marks-count, shown-same}
@@ -57,7 +57,7 @@ module _ (S B C out : List ℕ) (l : Layout) (f : ℕ) (at : ListedAt S l B C f)
         record { answer = rw (at .checked, n); output = rw (at .checked, n) }
 
     pub is-written : need (monthOf S l held) ≤ length out
-        → StatementIs S B C out (stated.Written (length (bytesOf S (monthOf S l held)))) (over (bytesOf S (monthOf S l held)) out)
+        → StatementIs S B C out (stated.Written (length (statementBytes S (monthOf S l held)))) (over (statementBytes S (monthOf S l held)) out)
     is-written h =
         let n = cause-after S B C out l (at .listed) (next (rw (at .place) at unspoilt) (next (rw (at .place) at (le-ltb _ _ h)) done)) in
         record { answer = rw (at .checked, n, at .place); output = rw (at .checked, n, at .place) }
@@ -76,5 +76,5 @@ module _ (S : List ℕ) (l : Layout) (c : Cells) (marks groupings : List ℕ)
       ap (λ (n : ℕ). 12 * n + 36)
       (sum-same places _ _ (λ i h. ap (λ (k : ℕ). bit (not (eqb k 0))) (held-mark i h)) ∙ marks-count (monthOf S l c))
 
-  pub held-shown : shown S (heldGrouping groupings) (heldMark marks) ≡ bytesOf S (monthOf S l c)
+  pub held-shown : shown S (heldGrouping groupings) (heldMark marks) ≡ statementBytes S (monthOf S l c)
   held-shown = shown-same S _ _ _ _ held-grouping held-mark

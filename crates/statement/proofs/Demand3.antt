@@ -33,8 +33,8 @@ use Rattle.book.specs.Book.{size, checkBook, openAnswer, openBook}
 use Rattle.book.specs.Accepted.{accepted, own, posted}
 use Rattle.book.proofs.Checked.{Sized, sized, book-good}
 use Rattle.book.proofs.Laws.{laws as bookLaws}
-use Rattle.statement.specs.Lines.{totalsOf, lines, having, tally, shown}
-use Rattle.statement.specs.Statement.{terms, monthOf, bytesOf, spoilt, need, firmCells, firmMonth, statementAnswer, statementOutput}
+use Rattle.statement.specs.Lines.{totalsBytes, lines, having, tally, shown}
+use Rattle.statement.specs.Statement.{terms, monthOf, statementBytes, spoilt, need, firmCells, firmMonth, statementAnswer, statementOutput}
 use Rattle.statement.specs.Parts.{Grouped}
 use Rattle.statement.specs.Demand3.{layout, isListed, totalsAfter, monthAfter, amountAfter, Run, outputOf, Falls, TotalsAt, afterLines, AddsUp, NoDearer, SameBytes, Demand3}
 use Rattle.statement.proofs.Answers.{cause-after}
@@ -49,7 +49,7 @@ amount-small j e = omega (arith, laws96 .dollars j e, count-most places (λ i. e
 -- the totals of a month, read behind a front
 module _ (xs ys : List ℕ) (e : ℕ) (j : Judged) where
   totals : List ℕ
-  totals = totalsOf e (tally (j .grouping) (mark version96 j) e places) ++ ys
+  totals = totalsBytes e (tally (j .grouping) (mark version96 j) e places) ++ ys
 
   abbrev such : (ℕ → Bool) → ℕ
   such isSuch = having (j .grouping) (mark version96 j) e places isSuch
@@ -109,18 +109,18 @@ module _ (S : List ℕ) (j : Judged) (grouped : Grouped j) where
   lines-end : length (lines S (mark version96 j)) ≡ afterLines j
   lines-end = lines-length S (mark version96 j) places ∙ ap (λ (n : ℕ). 12 * n) (marks-count j ∙ in-groupings)
 
-  bytes-end : length (bytesOf S j) ≡ afterLines j + 36
+  bytes-end : length (statementBytes S j) ≡ afterLines j + 36
   bytes-end = bytes-length S j ∙ ap (λ (n : ℕ). 12 * n + 36) in-groupings
 
   abbrev totalsIn : (e : ℕ) → List ℕ
-  totalsIn e = totalsOf e (tally (j .grouping) (mark version96 j) e places)
+  totalsIn e = totalsBytes e (tally (j .grouping) (mark version96 j) e places)
 
   -- each totals record stands behind what comes before it
   totals-at : (xs ys : List ℕ) (e : ℕ) {bs : List ℕ} {at : ℕ} → bs ≡ xs ++ (totalsIn e ++ ys) → length xs ≡ at → TotalsAt bs at e j
   unfolding totals
   totals-at xs ys e b a = rw (b, ← a) (totals-behind xs ys e j)
 
-  first-totals : (ys : List ℕ) → TotalsAt (bytesOf S j ++ ys) (afterLines j) 1 j
+  first-totals : (ys : List ℕ) → TotalsAt (statementBytes S j ++ ys) (afterLines j) 1 j
   unfolding shown
   first-totals ys =
       let front : List ℕ = lines S (mark version96 j) in
@@ -128,7 +128,7 @@ module _ (S : List ℕ) (j : Judged) (grouped : Grouped j) where
       (append-assoc (front ++ totalsIn 1) (totalsIn 2) ys ∙ append-assoc front (totalsIn 1) (totalsIn 2 ++ ys))
       lines-end
 
-  second-totals : (ys : List ℕ) → TotalsAt (bytesOf S j ++ ys) (afterLines j + 18) 2 j
+  second-totals : (ys : List ℕ) → TotalsAt (statementBytes S j ++ ys) (afterLines j + 18) 2 j
   unfolding shown
   second-totals ys =
       let front : List ℕ = lines S (mark version96 j) in
@@ -138,8 +138,8 @@ module _ (S : List ℕ) (j : Judged) (grouped : Grouped j) where
 
 -- what a statement of the month j comes to that nothing refuses
 record Written (S B C out : List ℕ) (j : Judged) : Type 0 where
-  answer : statementAnswer S B C out ≡ good (length (bytesOf S j))
-  output : statementOutput S B C out ≡ over (bytesOf S j) out
+  answer : statementAnswer S B C out ≡ good (length (statementBytes S j))
+  output : statementOutput S B C out ≡ over (statementBytes S j) out
 
 -- where 1 to 8, 21 and 22 do not refuse, the statement is written, if 23 does not
 module _ (S B C out : List ℕ) (l : Layout) (checked : checkBook S (length B) ≡ good l)
@@ -197,7 +197,7 @@ module _ (S C : List ℕ) (l : Layout) (e : checkOf S ≡ good l) where
 
 -- the bytes of a firm's statement after a list
 abbrev bytesAfter : (S C : List ℕ) → (rs : List (List ℕ)) → List ℕ
-bytesAfter S C rs = bytesOf S (monthAfter S C rs)
+bytesAfter S C rs = statementBytes S (monthAfter S C rs)
 
 module _ (S C : List ℕ) (listed : isListed S C ≡ true) where
   run : (p : Run S C) → Written S (posted S (openBook S (p .book)) (p .posts)) C (p .output) (monthAfter S C (p .posts))
@@ -228,7 +228,7 @@ module _ (S C : List ℕ) (listed : isListed S C ≡ true) where
       let laws = bookLaws S (opens S (p .book) (p .opened) .schedule) in
       let alike : totalsAfter S C (p .posts) ≡ totalsAfter S C (q .posts) =
       laws .own-only C _ (p .posts) (q .posts) (place-found S C (layout S) listed) h in
-      let e : bytesAfter S C (p .posts) ≡ bytesAfter S C (q .posts) = ap (λ (c : Cells). bytesOf S (monthOf S (layout S) c)) alike in
+      let e : bytesAfter S C (p .posts) ≡ bytesAfter S C (q .posts) = ap (λ (c : Cells). statementBytes S (monthOf S (layout S) c)) alike in
       record {
         written = length (bytesAfter S C (p .posts));
         first = run p .answer;
