@@ -2,9 +2,10 @@
 -- are those of the month after the list. Their totals are read back as they were written, each number being small enough; the rules' laws add
 -- them up; and the firm's own posts alone make its accepted totals.
 -- Assumes nothing.
-use Prim.Native.Nat.{ℕ, zero, suc, _+_, _*_, _≤_, _<_}
+use Prim.Native.Nat.{ℕ, _+_, _*_, _≤_, _<_}
 use mathlib.Core.Bool.{Bool, true, false, not, _&&_, and-true, and-false}
 use mathlib.Core.List.{List, [], _++_, append-assoc}
+use mathlib.Core.Logic.{⊎-elim}
 use mathlib.Core.Path.{_≡_, refl, sym, ap, ap₂, subst, _∙_}
 use native.Mathlib.Nat.{add-zero}
 use native.Mathlib.Omega.{arith}
@@ -13,9 +14,9 @@ use lib.ListN.{length, take, drop, length-append}
 use lib.Seq.{getD-append-add, take-at}
 use borrow.Author.Tests.{ltb-true}
 use Rattle.wire.specs.Bytes.{u16At, u32At, u16Bytes}
+use Rattle.wire.specs.Choose.{within}
 use Rattle.wire.specs.Lists.{over}
 use Rattle.wire.specs.Sums.{bit, count}
-use Rattle.wire.proofs.Bools.{range}
 use Rattle.wire.proofs.Bytes.{u16-behind, u32-behind, u16-again, u32-again}
 use Rattle.wire.proofs.Choose.{here, next, done, none-some}
 use Rattle.wire.proofs.Sums.{sum-same, sum-add, count-most}
@@ -39,6 +40,7 @@ use Rattle.statement.specs.Parts.{Grouped}
 use Rattle.statement.specs.Demand3.{layout, isListed, totalsAfter, monthAfter, amountAfter, Run, outputOf, Falls, TotalsAt, afterLines, AddsUp, NoDearer, SameBytes, Demand3}
 use Rattle.statement.proofs.Answers.{cause-after}
 use Rattle.statement.proofs.Shown.{lines-length, mark-some, marks-count, bytes-length, month-grouped}
+use Rattle.statement.proofs.Waivers.{one-or-two}
 
 laws96 : Laws version96
 laws96 = rulesLaws version96 falling96
@@ -90,20 +92,15 @@ one-bit : (v a b : Bool) → (v ≡ true → bit a + bit b ≡ 1) → bit v ≡ 
 one-bit true a b h = rw (and-true a, and-true b) (sym (h refl))
 one-bit false a b h = rw (and-false a, and-false b)
 
-one-of : (x : ℕ) → 1 ≤ x → x ≤ 2 → bit (eqb x 1) + bit (eqb x 2) ≡ 1
-one-of zero h k = absurd (omega arith)
-one-of (suc zero) h k = refl
-one-of (suc (suc zero)) h k = refl
-one-of (suc (suc (suc x))) h k = absurd (omega arith)
+one-of : (x : ℕ) → within 1 2 x ≡ true → bit (eqb x 1) + bit (eqb x 2) ≡ 1
+one-of x w = ⊎-elim (λ p. rw p) (λ p. rw p) (one-or-two x w)
 
 -- the bytes of a month whose violations are all of the grouping 1 or 2
 module _ (S : List ℕ) (j : Judged) (grouped : Grouped j) where
   in-groupings : count places (λ i. isViolation (j .code i)) ≡ violations j 1 + violations j 2
   in-groupings =
       sum-same places _ _ (λ i l.
-      one-bit (isViolation (j .code i)) (eqb (j .grouping i) 1) (eqb (j .grouping i) 2) (λ v.
-      let r = range 1 2 (j .grouping i) (grouped i l v) in
-      one-of (j .grouping i) (r .least) (r .most)))
+      one-bit (isViolation (j .code i)) (eqb (j .grouping i) 1) (eqb (j .grouping i) 2) (λ v. one-of (j .grouping i) (grouped i l v)))
       ∙ sum-add places (λ i. bit (eqb (j .grouping i) 1 && isViolation (j .code i))) (λ i. bit (eqb (j .grouping i) 2 && isViolation (j .code i)))
 
   lines-end : length (lines S (mark version96 j)) ≡ afterLines j
