@@ -3,7 +3,7 @@
 use Prim.Native.Nat.{ℕ}
 use mathlib.Core.Bool.{Bool, true, false, not, false≢true}
 use mathlib.Core.List.{List, [], _∷_}
-use mathlib.Core.Path.{_≡_, refl, sym}
+use mathlib.Core.Path.{_≡_, refl}
 use Rattle.wire.specs.Choose.{choose}
 use Rattle.schedule.specs.Counted.{Taken, refusal, outside, counted, contractListed, contractCounted, statusOf}
 

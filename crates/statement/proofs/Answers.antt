@@ -4,7 +4,7 @@
 use Prim.Native.Nat.{ℕ, _+_, _*_, _≤_, _<_}
 use mathlib.Core.Bool.{true, false, not}
 use mathlib.Core.List.{List}
-use mathlib.Core.Path.{_≡_, sym, ap, _∙_}
+use mathlib.Core.Path.{_≡_, ap, _∙_}
 use native.Mathlib.Omega.{arith}
 use lib.Dec.{eqb}
 use lib.ListN.{length, drop}
@@ -16,7 +16,7 @@ use Rattle.wire.proofs.Lists.{table-at}
 use Rattle.wire.proofs.Sums.{sum-same}
 use Rattle.rules.specs.Verdict.{version96}
 use Rattle.rules.specs.Month.{Cells}
-use Rattle.rules.specs.Marks.{places, groupOf, Judged, mark}
+use Rattle.rules.specs.Marks.{places, groupOf, mark}
 use Rattle.schedule.specs.Check.{good}
 use Rattle.schedule.specs.Lookup.{groupAt, firmListed}
 use Rattle.schedule.specs.declared.scan.Layout.{Layout}

@@ -3,17 +3,17 @@
 -- Assumes nothing.
 use Prim.Native.Nat.{ℕ, _+_, _-_, _*_, _/_, _%_, _≤_, _<_, zero-le}
 use mathlib.Core.Bool.{Bool, true, false, cond, not, _&&_}
-use mathlib.Core.List.{List, [], _∷_}
-use mathlib.Core.Path.{_≡_, refl, sym, ap, ap₂, _∙_}
-use native.Mathlib.Nat.{le-refl, le-trans, add-zero, mul-le-mul, mul-le-mul-left, mul-one}
+use mathlib.Core.List.{List}
+use mathlib.Core.Path.{_≡_, refl, sym, ap, _∙_}
+use native.Mathlib.Nat.{le-refl, le-trans, add-zero, mul-le-mul-left}
 use native.Mathlib.Omega.{arith}
-use lib.Dec.{leb, ltb, lit≤}
+use lib.Dec.{ltb, lit≤}
 use borrow.Author.Tests.{ltb-true, le-leb, le-ltb, not-false}
 use Rattle.wire.specs.Choose.{within}
 use Rattle.wire.specs.Sums.{sum, count}
 use Rattle.wire.proofs.Bools.{and-left, and-right, cond-le, cond-where, range}
 use Rattle.wire.proofs.Choose.{every, none-at}
-use Rattle.wire.proofs.Sums.{sum-more, sum-le, sum-same, sum-most, sum-cost}
+use Rattle.wire.proofs.Sums.{sum-more, sum-le, sum-most, sum-cost}
 use Rattle.rules.specs.Verdict.{version96, isViolation, limit, fits, verdict}
 use Rattle.rules.specs.Month.{Terms, Cells, counted, overCounted, days, sums, exempt}
 use Rattle.rules.specs.Marks.{places, dayOf, groupOf, codeAt}

@@ -7,7 +7,7 @@ ghost use Prim.Native.Nat.{_<_};
 ghost use Rattle.schedule.specs.Lookup.{groupAt};
 ghost use Rattle.statement.specs.Parts.{startsOf, groupingsOf};
 
-// Where the groups stand in the schedule; past the last group the walk goes on, and nobody asks where it comes to.
+// Where the groups stand in the schedule. Past the last group the places mean nothing, and no code goes by them.
 pub(crate) fn group_starts(schedule: &[u8]) -> [usize; 32]
     ensures { λ r. ⌜ r ≡ startsOf (now (schedule .entry)) ⌝ }
 {
