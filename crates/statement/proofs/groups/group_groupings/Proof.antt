@@ -35,17 +35,21 @@ loop-less c = search needs
 
 loop-again : tie.Need-loop-again Inv-loop μ-loop
 loop-again c =
-    let a = c .before .before .before .before .args in (
+    let l = c .before .before in
+    let s = l .before .before in
+    let a = s .args in (
       search needs,
-      rw (c .before .before .loop .inv .1)
-          (table-write (λ i. groupAt (a .schedule .now) i .grouping) (c .before .before .loop .g) (c .group-of .result .grouping) (replicate 32 0) (omega arith)
+      rw (l .loop .inv .1)
+          (table-write (λ i. groupAt (a .schedule .now) i .grouping) (l .loop .g) (c .group-of .result .grouping) (replicate 32 0) (omega arith)
           (ap (λ (x : Group). x .grouping) (c .group-of .ensures))),
     )
 
 returns : tie.Need-returns Inv-loop μ-loop
 returns c =
-    let e : c .before .loop .g ≡ 32 = omega arith in
-    rw e at (c .before .loop .inv .1) ∙ table-done (λ i. groupAt (c .before .before .before .args .schedule .now) i .grouping) 32 (replicate 32 0) refl
+    let l = c .before in
+    let s = l .before .before in
+    let e : l .loop .g ≡ 32 = omega arith in
+    rw e at (l .loop .inv .1) ∙ table-done (λ i. groupAt (s .args .schedule .now) i .grouping) 32 (replicate 32 0) refl
 
 pub group-groupings-spec : {M : Type 1} → statement M
 group-groupings-spec =

@@ -15,14 +15,16 @@ fill-exempts-requires c κs = search needs
 
 give-marks-requires : tie.Need-give-marks-requires
 give-marks-requires c κs =
-    let a = c .before .before .before .before .before .args in
-    held-grouped (a .schedule .now) (a .l) (cells (a .l .groups) (a .book .now) (a .firm)) _ _ (a .groupings .now) (c .before .before .fill-codes .ensures) (c .before .fill-exempts .ensures) (c .before .before .before .before .before .pre .1 .0) (c .before .before .before .before .before .pre .1 .1 .checked)
+    let s = c .before .before .before .before .before in
+    let a = s .args in
+    held-grouped (a .schedule .now) (a .l) (cells (a .l .groups) (a .book .now) (a .firm)) _ _ (a .groupings .now) (c .before .before .fill-codes .ensures) (c .before .fill-exempts .ensures) (s .pre .1 .0) (s .pre .1 .1 .checked)
 
 returns : tie.Need-returns
 returns c =
-    let a = c .before .before .before .before .before .before .args in
+    let s = c .before .before .before .before .before .before in
+    let a = s .args in
     c .give-marks .ensures
-    ∙ held-marks (a .schedule .now) (a .l) (cells (a .l .groups) (a .book .now) (a .firm)) _ _ (a .groupings .now) (c .before .before .before .fill-codes .ensures) (c .before .before .fill-exempts .ensures) (c .before .before .before .before .before .before .pre .1 .0)
+    ∙ held-marks (a .schedule .now) (a .l) (cells (a .l .groups) (a .book .now) (a .firm)) _ _ (a .groupings .now) (c .before .before .before .fill-codes .ensures) (c .before .before .fill-exempts .ensures) (s .pre .1 .0)
 
 pub firm-marks-spec : {M : Type 1} → statement M
 firm-marks-spec =

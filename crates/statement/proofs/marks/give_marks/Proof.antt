@@ -53,8 +53,10 @@ one-requires c κs = search needs
 
 with-requires : tie.Need-with-requires Inv-loop μ-loop
 with-requires c κs =
-    let j : Judged = held (c .before .before .before .before .before .before .before .args .t1) (c .before .before .before .before .before .before .before .args .exempts .now) (c .before .before .before .before .before .before .before .args .groupings .now) in
-    omega (arith, count-most (c .before .before .before .before .before .before .loop .i) (leftIn j 1), count-most (c .before .before .before .before .before .before .loop .i) (leftIn j 2), c .before .before .before .before .before .before .loop .inv, c .one .ensures .1)
+    let l = c .before .before .before .before .before .before in
+    let s = l .before in
+    let j : Judged = held (s .args .t1) (s .args .exempts .now) (s .args .groupings .now) in
+    omega (arith, count-most (l .loop .i) (leftIn j 1), count-most (l .loop .i) (leftIn j 2), l .loop .inv, c .one .ensures .1)
 
 add-i : tie.Need-add-i Inv-loop μ-loop
 add-i c = search needs
@@ -64,15 +66,18 @@ loop-less c = search needs
 
 loop-again : tie.Need-loop-again Inv-loop μ-loop
 loop-again c =
-    let a = c .before .before .before .before .before .before .before .before .args in
-    let v = c .before .before .before .before .before .before .before .loop .inv in
-    let i = c .before .before .before .before .before .before .before .loop .i in
+    let l = c .before .before .before .before .before .before .before in
+    let s = l .before in
+    let k = c .before .before .before .before .before .before in
+    let a = s .args in
+    let v = l .loop .inv in
+    let i = l .loop .i in
     let j : Judged = held (a .t1) (a .exempts .now) (a .groupings .now) in
-    let read : getD (c .before .before .before .before .before .before .before .loop .marks) i 0 ≡ getD (a .t1) i 0 = rw (v .1) (table-read (mark version96 j) i (a .t1) 0) in
+    let read : getD (l .loop .marks) i 0 ≡ getD (a .t1) i 0 = rw (v .1) (table-read (mark version96 j) i (a .t1) 0) in
     let given : c .before .before .mark-of .result ≡ mark version96 j i
-    = rw (c .before .before .mark-of .ensures, read, c .before .before .before .of .ensures, v .2, v .3) (mark-by j i (c .before .before .before .before .before .before .before .before .pre i (c .before .before .before .before .before .before .loop-test .taken))) in (
+    = rw (c .before .before .mark-of .ensures, read, c .before .before .before .of .ensures, v .2, v .3) (mark-by j i (s .pre i (k .loop-test .taken))) in (
       search needs,
-      rw (v .1) (table-write (mark version96 j) i (c .before .before .mark-of .result) (a .t1) (omega (arith, c .before .before .before .before .before .before .before .before .good .0 .1 .0 .1)) given),
+      rw (v .1) (table-write (mark version96 j) i (c .before .before .mark-of .result) (a .t1) (omega (arith, s .good .0 .1 .0 .1)) given),
       rw (c .with .ensures .0, v .2, c .before .one .ensures .0, read, sum-more, bit-in (eqb (j .grouping i) 1)),
       rw (c .with .ensures .1, v .3, c .before .one .ensures .0, read, sum-more, bit-in (eqb (j .grouping i) 2)),
     )

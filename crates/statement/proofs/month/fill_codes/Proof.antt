@@ -36,10 +36,11 @@ loop-less : tie.Need-loop-less Inv-loop μ-loop
 loop-less c = search needs
 
 loop-again : tie.Need-loop-again Inv-loop μ-loop
-loop-again c = (
-  search needs,
-  rw (c .before .before .loop .inv .1) (table-write _ (c .before .before .loop .i) (c .place-code .result) (replicate 992 0) (omega arith) (c .place-code .ensures)),
-)
+loop-again c =
+    let l = c .before .before in (
+      search needs,
+      rw (l .loop .inv .1) (table-write _ (l .loop .i) (c .place-code .result) (replicate 992 0) (omega arith) (c .place-code .ensures)),
+    )
 
 returns : tie.Need-returns Inv-loop μ-loop
 returns c =

@@ -42,13 +42,15 @@ days-verdict-requires c κs = search needs
 returns-2 : tie.Need-returns-2
 unfolding sumsTo
 returns-2 c =
-    let a = c .before .before .before .before .before .before .before .before .args in
-    let ok = c .before .before .before .before .before .before .before .before .pre .1 .1 in
+    let s = c .before .before .before .before .before .before .before .before in
+    let k = c .before .before .before .before in
+    let a = s .args in
+    let ok = s .pre .1 .1 in
     let f : Cells = cells (a .l .groups) (a .book .now) (a .firm) in
     let fit : (day : ℕ) → counted (terms (a .schedule .now) (a .l)) f (a .g) day ≡ true → fits 1 (f (a .g) day) ≡ true
-    = λ day e. cell-fits (a .schedule .now) f ok (a .g) day (c .before .before .before .before .before .before .before .before .pre .0) (and-left (inEffect (a .l .month) (a .l .closed) day) _ e) in
+    = λ day e. cell-fits (a .schedule .now) f ok (a .g) day (s .pre .0) (and-left (inEffect (a .l .month) (a .l .closed) day) _ e) in
     rw (c .days-verdict .ensures, c .before .month-sums .ensures, c .before .before .before .group-of .ensures)
-    (sym (exempt-verdict (terms (a .schedule .now) (a .l)) f (a .g) fit (benchmark-range (a .schedule .now) (ok .checked) (a .g) (c .before .before .before .before .if1 .left))))
+    (sym (exempt-verdict (terms (a .schedule .now) (a .l)) f (a .g) fit (benchmark-range (a .schedule .now) (ok .checked) (a .g) (k .if1 .left))))
 
 pub is-exempt-spec : {M : Type 1} → statement M
 is-exempt-spec =

@@ -26,7 +26,8 @@ spoilt-at-requires c κs = search needs
 returns : tie.Need-returns Inv-loop μ-loop
 unfolding spoilt
 returns c =
-    let here = c .before .before .before .loop .inv .1 ∙ seek-hit _ _ _ (c .before .before .loop-test .taken) (sym (c .before .spoilt-at .ensures) ∙ c .if1 .taken) in
+    let l = c .before .before .before in
+    let here = l .loop .inv .1 ∙ seek-hit _ _ _ (c .before .before .loop-test .taken) (sym (c .before .spoilt-at .ensures) ∙ c .if1 .taken) in
     simp (here, lt-ltb _ _ (c .before .before .loop-test .taken))
 
 add-i : tie.Need-add-i Inv-loop μ-loop
@@ -36,7 +37,9 @@ loop-less : tie.Need-loop-less Inv-loop μ-loop
 loop-less c = search needs
 
 loop-again : tie.Need-loop-again Inv-loop μ-loop
-loop-again c = (search needs, c .before .before .before .loop .inv .1 ∙ seek-next _ _ _ (c .before .before .loop-test .taken) (sym (c .before .spoilt-at .ensures) ∙ c .if1 .left))
+loop-again c =
+    let l = c .before .before .before in
+    (search needs, l .loop .inv .1 ∙ seek-next _ _ _ (c .before .before .loop-test .taken) (sym (c .before .spoilt-at .ensures) ∙ c .if1 .left))
 
 returns-2 : tie.Need-returns-2 Inv-loop μ-loop
 unfolding spoilt

@@ -40,13 +40,15 @@ in-effect-requires c κs = search needs
 
 with-cell-requires : tie.Need-with-cell-requires Inv-loop μ-loop
 with-cell-requires c κs =
-    let a = c .before .before .before .before .before .before .before .args in
+    let l = c .before .before .before .before in
+    let s = l .before .before .before in
+    let a = s .args in
     let f : Cells = cells (a .l .groups) (a .book .now) (a .firm) in
     let fit : (day : ℕ) → counted (terms (a .schedule .now) (a .l)) f (a .group) day ≡ true → fits 1 (f (a .group) day) ≡ true
-    = λ day e. cell-fits (a .schedule .now) f (c .before .before .before .before .before .before .before .pre .1) (a .group) day (c .before .before .before .before .before .before .before .pre .0) (and-left (inEffect (a .l .month) (a .l .closed) day) _ e) in
-    let w = sums-within (terms (a .schedule .now) (a .l)) f (a .group) fit (c .before .before .before .before .loop .d) in (
-      rw (c .before .before .before .before .loop .inv .1) (record { raw = omega (arith, w .raw); score = omega (arith, w .score); lots = omega (arith, w .lots); days = omega (arith, w .days) }),
-      rw (c .before .in-effect .ensures, c .before .before .cell .ensures) (fit (c .before .before .before .before .loop .d + 1)),
+    = λ day e. cell-fits (a .schedule .now) f (s .pre .1) (a .group) day (s .pre .0) (and-left (inEffect (a .l .month) (a .l .closed) day) _ e) in
+    let w = sums-within (terms (a .schedule .now) (a .l)) f (a .group) fit (l .loop .d) in (
+      rw (l .loop .inv .1) (record { raw = omega (arith, w .raw); score = omega (arith, w .score); lots = omega (arith, w .lots); days = omega (arith, w .days) }),
+      rw (c .before .in-effect .ensures, c .before .before .cell .ensures) (fit (l .loop .d + 1)),
     )
 
 add-d : tie.Need-add-d Inv-loop μ-loop
@@ -56,10 +58,11 @@ loop-less : tie.Need-loop-less Inv-loop μ-loop
 loop-less c = search needs
 
 loop-again : tie.Need-loop-again Inv-loop μ-loop
-loop-again c = (
-  search needs,
-  rw (c .with-cell .ensures, c .before .before .in-effect .ensures, c .before .before .before .cell .ensures, c .before .before .before .before .before .loop .inv .1, sums-more),
-)
+loop-again c =
+    let l = c .before .before .before .before .before in (
+      search needs,
+      rw (c .with-cell .ensures, c .before .before .in-effect .ensures, c .before .before .before .cell .ensures, l .loop .inv .1, sums-more),
+    )
 
 returns : tie.Need-returns Inv-loop μ-loop
 returns c =

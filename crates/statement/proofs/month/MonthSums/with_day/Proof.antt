@@ -13,7 +13,9 @@ add-t4 : tie.Need-add-t4
 add-t4 c = omega (arith, fitting 1 (c .before .before .before .before .args .t) (c .before .before .before .before .pre .1))
 
 add-t5 : tie.Need-add-t5
-add-t5 c = omega (arith, fitting 1 (c .before .before .before .before .before .before .args .t) (c .before .before .before .before .before .before .pre .1))
+add-t5 c =
+    let s = c .before .before .before .before .before .before in
+    omega (arith, fitting 1 (s .args .t) (s .pre .1))
 
 add-t6 : tie.Need-add-t6
 add-t6 c = search needs
