@@ -4,7 +4,7 @@
 use Prim.Native.Nat.{ℕ}
 use mathlib.Core.List.{List, [], _∷_, _++_}
 use mathlib.Core.Path.{_≡_, refl}
-use Rattle.wire.specs.Bytes.{u16At, u32At, u16Bytes, u32Bytes}
+use Rattle.wire.specs.Bytes.{u16At, u32At}
 use Rattle.wire.specs.Choose.{choose, all, seekIn}
 use Rattle.wire.specs.Lists.{joined, table, over}
 use Rattle.wire.specs.Sums.{sum}
@@ -17,23 +17,19 @@ use Rattle.book.specs.Activity.{totalsOf}
 use Rattle.book.specs.Book.{none, checkBook, openBook}
 use Rattle.book.specs.Post.{Effect, outside, counted, cause, postAnswer, postBook}
 use Rattle.book.specs.Accepted.{accepted, posted}
+use Rattle.book.specs.Samples.{head, group, firm, activity}
 
--- a head: October 2019 with day 2 not in effect; a group: ES; a firm: ABC
+-- October 2019 with day 2 not in effect, ES and ABC
 abbrev schedule : List ℕ
-schedule =
-    u16Bytes 10 ++ u16Bytes 1 ++ u16Bytes 24237 ++ u32Bytes 2
-    ++ (u16Bytes 18 ++ u16Bytes 2 ++ (69 ∷ 83 ∷ 1 ∷ 64 ∷ []) ++ u32Bytes 1000 ++ u16Bytes 4095 ++ u16Bytes 0 ++ u16Bytes 24239)
-    ++ (u16Bytes 7 ++ u16Bytes 3 ++ (65 ∷ 66 ∷ 67 ∷ []))
+schedule = head 2 ++ group 69 83 1 ++ firm
 
 -- a record of ABC in ES: of each count the next power of ten, lots last
-abbrev activity : (day contract : ℕ) → List ℕ
-activity day contract =
-    u16Bytes 44 ++ u16Bytes 4 ++ (65 ∷ 66 ∷ 67 ∷ day ∷ 69 ∷ 83 ∷ []) ++ u16Bytes contract
-    ++ u32Bytes 1 ++ u32Bytes 10 ++ u32Bytes 100 ++ u32Bytes 1000 ++ u32Bytes 10000 ++ u32Bytes 100000 ++ u32Bytes 1000000 ++ u32Bytes 10000000
+abbrev counts : (day contract : ℕ) → List ℕ
+counts day contract = activity 69 83 day contract 1 10 100 1000 10000 100000 1000000 10000000
 
 -- day 1 twice, day 2 between, then day 32, an unlisted contract, and a record of two bytes
 abbrev posts : List (List ℕ)
-posts = activity 1 24239 ∷ activity 2 24239 ∷ activity 1 24239 ∷ activity 32 24239 ∷ activity 1 24240 ∷ (44 ∷ 0 ∷ []) ∷ []
+posts = counts 1 24239 ∷ counts 2 24239 ∷ counts 1 24239 ∷ counts 32 24239 ∷ counts 1 24240 ∷ (44 ∷ 0 ∷ []) ∷ []
 
 -- the answers to a list, each post taking the book as the one before left it
 abbrev answers : (B : List ℕ) → (rs : List (List ℕ)) → List (Outcome Effect)

@@ -4,4 +4,5 @@ pub mod Post
 pub mod Filing
 pub mod Accepted
 pub mod Laws
+pub mod Samples
 pub mod Example

@@ -6,7 +6,7 @@ use mathlib.Core.Bool.{Bool, _&&_}
 use mathlib.Core.List.{List, [], _∷_, _++_}
 use mathlib.Core.Path.{_≡_, refl}
 use lib.Dec.{leb}
-use Rattle.wire.specs.Bytes.{u16At, u32At, u16Bytes, u32Bytes}
+use Rattle.wire.specs.Bytes.{u16At, u32At}
 use Rattle.wire.specs.Choose.{choose, all, seekIn}
 use Rattle.wire.specs.Lists.{joined, table}
 use Rattle.wire.specs.Sums.{sum, count}
@@ -21,40 +21,26 @@ use Rattle.book.specs.Activity.{totalsOf}
 use Rattle.book.specs.Book.{checkBook, openBook}
 use Rattle.book.specs.Post.{cause as postCause}
 use Rattle.book.specs.Accepted.{accepted, posted}
+use Rattle.book.specs.Samples.{head, group, ABC, firm, activity}
 use Rattle.statement.specs.Lines.{lineAt, tally, shown}
 use Rattle.statement.specs.Statement.{spoilt, cause, statementAnswer, statementOutput}
 use Rattle.statement.specs.Demand3.{totalsAfter, amountAfter}
 
--- a head: October 2019, with these days not in effect
-abbrev head : (closed : ℕ) → List ℕ
-head closed = u16Bytes 10 ++ u16Bytes 1 ++ u16Bytes 24237 ++ u32Bytes closed
-
--- a group: of this code and exchange grouping, k 64, B 1,000, front 4,095, extra 0, contract 24,239
-abbrev group : (first second grouping : ℕ) → List ℕ
-group first second grouping =
-    u16Bytes 18 ++ u16Bytes 2 ++ (first ∷ second ∷ grouping ∷ 64 ∷ []) ++ u32Bytes 1000 ++ u16Bytes 4095 ++ u16Bytes 0 ++ u16Bytes 24239
-
--- a firm: ABC
-abbrev ABC : List ℕ
-ABC = 65 ∷ 66 ∷ 67 ∷ []
-
--- document 01's schedule: every day in effect, ES, ABC
+-- document 01's schedule: October 2019, every day in effect, ES of grouping 1, ABC
 abbrev schedule : List ℕ
-schedule = head 0 ++ group 69 83 1 ++ (u16Bytes 7 ++ u16Bytes 3 ++ ABC)
+schedule = head 0 ++ group 69 83 1 ++ firm
 
 -- a record of ABC in a group: new orders, modifications, cancellations and lots
-abbrev activity : (first second day new modified cancelled lots : ℕ) → List ℕ
-activity first second day new modified cancelled lots =
-    u16Bytes 44 ++ u16Bytes 4 ++ ABC ++ (day ∷ first ∷ second ∷ []) ++ u16Bytes 24239
-    ++ u32Bytes new ++ u32Bytes modified ++ u32Bytes cancelled ++ u32Bytes 0 ++ u32Bytes 0 ++ u32Bytes 0 ++ u32Bytes 0 ++ u32Bytes lots
+abbrev orders : (first second day new modified cancelled lots : ℕ) → List ℕ
+orders first second day new modified cancelled lots = activity first second day 24239 new modified cancelled 0 0 0 0 lots
 
 -- raw and score of the fifth marked day (122,000, 143,000), with so many lots: code 4 with 10,000, a pass with 20,000
 abbrev fifth : (first second day lots : ℕ) → List ℕ
-fifth first second day lots = activity first second day 39000 53000 30000 lots
+fifth first second day lots = orders first second day 39000 53000 30000 lots
 
 -- the ninth marked day (60,001, 60,001, 1,000): code 5
 abbrev ninth : (first second day : ℕ) → List ℕ
-ninth first second day = activity first second day 0 60001 0 1000
+ninth first second day = orders first second day 0 60001 0 1000
 
 -- document 01's whole run
 abbrev run : List (List ℕ)
@@ -72,13 +58,13 @@ runBytes =
 
 -- day 2 not in effect; ES and ZC of grouping 1, CL of grouping 2
 abbrev threeGroups : List ℕ
-threeGroups = head 2 ++ group 69 83 1 ++ group 67 76 2 ++ group 90 67 1 ++ (u16Bytes 7 ++ u16Bytes 3 ++ ABC)
+threeGroups = head 2 ++ group 69 83 1 ++ group 67 76 2 ++ group 90 67 1 ++ firm
 
 -- one failing day more in ES on the day not in effect, one in CL, and one in ZC, which has many lots on another day
 abbrev manyMarks : List (List ℕ)
 manyMarks =
     fifth 69 83 1 10000 ∷ fifth 69 83 2 10000 ∷ fifth 69 83 3 10000 ∷ fifth 69 83 4 10000 ∷ ninth 69 83 5
-    ∷ fifth 67 76 1 10000 ∷ fifth 90 67 1 10000 ∷ activity 90 67 6 1 0 0 1000000 ∷ []
+    ∷ fifth 67 76 1 10000 ∷ fifth 90 67 1 10000 ∷ orders 90 67 6 1 0 0 1000000 ∷ []
 
 -- by day, then by the group's place: the waivers of CL are its own, and ZC is exempt; grouping 1: 5 1 2 2 2000; grouping 2: 1 0 1 0 0
 abbrev manyBytes : List ℕ
@@ -106,11 +92,11 @@ eased = fifth 69 83 1 10000 ∷ fifth 69 83 2 10000 ∷ fifth 69 83 3 20000 ∷ 
 
 -- three failing days, and one with a single message and many lots
 abbrev excused : List (List ℕ)
-excused = fifth 69 83 1 10000 ∷ fifth 69 83 2 10000 ∷ fifth 69 83 3 10000 ∷ activity 69 83 4 1 0 0 1000000 ∷ []
+excused = fifth 69 83 1 10000 ∷ fifth 69 83 2 10000 ∷ fifth 69 83 3 10000 ∷ orders 69 83 4 1 0 0 1000000 ∷ []
 
 -- the same without that message
 abbrev silent : List (List ℕ)
-silent = fifth 69 83 1 10000 ∷ fifth 69 83 2 10000 ∷ fifth 69 83 3 10000 ∷ activity 69 83 4 0 0 0 1000000 ∷ []
+silent = fifth 69 83 1 10000 ∷ fifth 69 83 2 10000 ∷ fifth 69 83 3 10000 ∷ orders 69 83 4 0 0 0 1000000 ∷ []
 
 -- raw and score no larger and lots no smaller
 abbrev isLighter : (t′ t : Totals) → Bool
