@@ -3,3 +3,4 @@ pub mod Waivers
 pub mod Shown
 pub mod Answers
 pub mod Demand3
+pub mod Applied

@@ -2,10 +2,10 @@
 -- which traffic falls and the amount with it; and one that shows why demand 3 asks that no raw count above zero becomes zero.
 -- Assumes nothing.
 use Prim.Native.Nat.{ℕ, _+_}
-use mathlib.Core.Bool.{Bool, _&&_}
+use mathlib.Core.Bool.{Bool, _&&_, _||_}
 use mathlib.Core.List.{List, [], _∷_, _++_}
 use mathlib.Core.Path.{_≡_, refl}
-use lib.Dec.{leb}
+use lib.Dec.{leb, ltb}
 use Rattle.wire.specs.Bytes.{u16At, u32At}
 use Rattle.wire.specs.Choose.{choose, all, seekIn}
 use Rattle.wire.specs.Lists.{joined, table}
@@ -24,7 +24,7 @@ use Rattle.book.specs.Accepted.{accepted, posted}
 use Rattle.book.specs.Samples.{head, group, ABC, firm, activity}
 use Rattle.statement.specs.Lines.{lineAt, tally, shown}
 use Rattle.statement.specs.Statement.{spoilt, cause, statementAnswer, statementOutput}
-use Rattle.statement.specs.Demand3.{totalsAfter, amountAfter}
+use Rattle.statement.specs.Demand3.{layout, totalsAfter, amountAfter, Falls}
 
 -- document 01's schedule: October 2019, every day in effect, ES of grouping 1, ABC
 abbrev schedule : List ℕ
@@ -99,12 +99,16 @@ abbrev silent : List (List ℕ)
 silent = fifth 69 83 1 10000 ∷ fifth 69 83 2 10000 ∷ fifth 69 83 3 10000 ∷ orders 69 83 4 0 0 0 1000000 ∷ []
 
 -- raw and score no larger and lots no smaller
-abbrev isLighter : (t′ t : Totals) → Bool
+abbrev pub isLighter : (t′ t : Totals) → Bool
 isLighter t′ t = leb (t′ .raw) (t .raw) && (leb (t′ .score) (t .score) && leb (t .lots) (t′ .lots))
 
--- on how many of the 31 days the second list is lighter than the first, in the first group
-abbrev lighterDays : (first second : List (List ℕ)) → ℕ
-lighterDays first second = count 31 (λ i. isLighter (totalsAfter schedule ABC second 0 (i + 1)) (totalsAfter schedule ABC first 0 (i + 1)))
+-- a raw count above zero does not become zero
+abbrev pub isKept : (t′ t : Totals) → Bool
+isKept t′ t = leb (t .raw) 0 || ltb 0 (t′ .raw)
+
+-- on how many of the 31 days a test holds of a firm's accepted totals after the second list and after the first, in the first group
+abbrev pub daysWhere : ((t′ t : Totals) → Bool) → (S C : List ℕ) → (first second : List (List ℕ)) → ℕ
+daysWhere isSo S C first second = count 31 (λ i. isSo (totalsAfter S C second 0 (i + 1)) (totalsAfter S C first 0 (i + 1)))
 
 pub record Example : Type 0 where
   pub runAnswer : answers schedule 93 run ≡ good 84
@@ -112,13 +116,20 @@ pub record Example : Type 0 where
   pub manyAnswer : answers threeGroups 279 manyMarks ≡ good 108
   pub manyOutput : leaves threeGroups 279 manyMarks ≡ manyBytes ++ table 12 (λ i. 7)
   -- traffic falls: with more lots on day 3 it passes, and is billed no longer
-  pub easedLighter : lighterDays run eased ≡ 31
+  pub oneGroup : layout schedule .groups ≡ 1
+  pub easedLighter : daysWhere isLighter schedule ABC run eased ≡ 31
+  pub easedKept : daysWhere isKept schedule ABC run eased ≡ 31
   pub runAmount : amountAfter schedule ABC run 1 ≡ 2000
   pub easedAmount : amountAfter schedule ABC eased 1 ≡ 1000
   -- where a raw count above zero becomes zero the amount may rise: lots of a day without messages are not summed, and the exemption is lost
-  pub silentLighter : lighterDays excused silent ≡ 31
+  pub silentLighter : daysWhere isLighter schedule ABC excused silent ≡ 31
+  pub silentKept : daysWhere isKept schedule ABC excused silent ≡ 30
   pub excusedAmount : amountAfter schedule ABC excused 1 ≡ 0
   pub silentAmount : amountAfter schedule ABC silent 1 ≡ 1000
+
+-- so demand 3 applies to the first pair: proved in proofs/Applied.antt
+abbrev pub Applies : Type 0
+Applies = Falls schedule ABC run eased
 
 pub example : Example
 unfolding accepted posted checkBook checkOf scan ending after recordCause postCause isRepeated fieldsOk isFull lengthOk isDue byKind firmListed groupListed firmIs groupIs groupStart firmOk groupOk contractsOk contractBad before contract listed headOk isCode contractIs isCounted isAfter inFront contractCounted contractListed groupFields daysIn sum joined seekIn all choose u32At u16At totalsOf code spoilt cause lineAt tally shown
@@ -128,10 +139,13 @@ example =
       runOutput = refl;
       manyAnswer = refl;
       manyOutput = refl;
+      oneGroup = refl;
       easedLighter = refl;
+      easedKept = refl;
       runAmount = refl;
       easedAmount = refl;
       silentLighter = refl;
+      silentKept = refl;
       excusedAmount = refl;
       silentAmount = refl;
     }

@@ -2,8 +2,9 @@
 -- Assumes nothing.
 use Prim.Native.Nat.{ℕ, zero, suc, _+_, _*_, _≤_, _<_, zero-le}
 use mathlib.Core.Bool.{Bool, true, false, cond}
+use mathlib.Core.Logic.{⊎-elim}
 use mathlib.Core.Path.{_≡_, refl, ap₂}
-use native.Mathlib.Nat.{le-refl, add-le-add, mul-add, suc-mul}
+use native.Mathlib.Nat.{le-refl, eq-or-lt-of-le, add-le-add, mul-add, suc-mul}
 use native.Mathlib.Numerals.{add-one}
 use native.Mathlib.Omega.{arith}
 use Rattle.wire.specs.Sums.{bit, sum, count}
@@ -42,10 +43,25 @@ pub bit-most : (b : Bool) → bit b ≤ 1
 bit-most true = omega arith
 bit-most false = omega arith
 
+bit-one : (b : Bool) → bit b ≡ 1 → b ≡ true
+bit-one true e = refl
+bit-one false e = absurd (omega arith)
+
 pub count-most : (n : ℕ) (p : ℕ → Bool) → count n p ≤ n
 unfolding sum
 count-most zero p = omega arith
 count-most (suc n) p = omega (arith, count-most n p, bit-most (p n))
+
+-- where as many pass as there are, each passes
+pub count-all : (n : ℕ) (p : ℕ → Bool) → count n p ≡ n → (i : ℕ) → i < n → p i ≡ true
+unfolding sum
+count-all zero p e i h = absurd (omega arith)
+count-all (suc n) p e i h =
+    let m = count-most n p in
+    let b = bit-most (p n) in
+    ⊎-elim (λ (q : i ≡ n). rw q (bit-one (p n) (omega arith)))
+    (λ (l : i < n). count-all n p (omega arith) i l)
+    (eq-or-lt-of-le (omega arith))
 
 -- where each that passes costs the same
 cost-step : (b : Bool) (d m n : ℕ) → m ≡ d * n → m + cond b d 0 ≡ d * (n + bit b)
