@@ -10,15 +10,15 @@ ghost use lib.ListN.{getD};
 ghost use Rattle.wire.specs.Lists.{table};
 ghost use Rattle.wire.specs.Sums.{bit, count};
 ghost use Rattle.rules.specs.Verdict.{version96};
-ghost use Rattle.rules.specs.Marks.{mark};
+ghost use Rattle.rules.specs.Marks.{markOf, mark};
 ghost use Rattle.schedule.specs.Lookup.{groupAt};
 ghost use Rattle.book.specs.Book.{cells};
 ghost use Rattle.statement.specs.Statement.{monthOf};
-ghost use Rattle.statement.specs.Parts.{startsOf, Unspoilt, markOf, held, Grouped, groupingsOf};
+ghost use Rattle.statement.specs.Parts.{startsOf, Unspoilt, held, Grouped, groupingsOf};
 
 // The mark of a code, where so many were left before it in its exchange grouping.
 fn mark_of(code: u8, exempt: bool, before: u16) -> u8
-    ensures { λ r. ⌜ r ≡ markOf code exempt before ⌝ }
+    ensures { λ r. ⌜ r ≡ markOf version96 code exempt before ⌝ }
 {
     if !((code == 4) | (code == 5)) {
         return 0;
