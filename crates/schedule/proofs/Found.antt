@@ -6,7 +6,7 @@ use mathlib.Core.List.{List}
 use mathlib.Core.Path.{_≡_, sym, ap, _∙_}
 use Rattle.wire.proofs.Choose.{each, none-at}
 use Rattle.schedule.specs.Fields.{groupOk, groupFields}
-use Rattle.schedule.specs.Lookup.{bodyAt, groupStart, groupIs, groupListed, firmIs, firmListed, found, unlisted, GroupPlace, groupPlace, groupFound, firmFound}
+use Rattle.schedule.specs.Lookup.{bodyAt, groupStart, groupIs, groupListed, firmIs, firmListed, found, unlisted, GroupPlace, groupAt, groupPlace, groupFound, firmFound}
 use Rattle.schedule.specs.Check.{good, checkOf}
 use Rattle.schedule.specs.Good.{Once, GroupInRange, Only, Searched}
 use Rattle.schedule.specs.declared.scan.Layout.{Layout}
@@ -17,7 +17,7 @@ use Rattle.schedule.proofs.Good.{good-schedule}
 only : {n : ℕ} {p : ℕ → Bool} {i : ℕ} → Once n p → FoundAt n p i → Only n p i
 only {n} {p} {i} once f = record { inside = f .inside; holds = f .holds; only = λ j h t. once j i h (f .inside) t (f .holds) }
 
-pub group-in-range : (B : List ℕ) → groupOk B ≡ true → GroupInRange (groupFields B)
+group-in-range : (B : List ℕ) → groupOk B ≡ true → GroupInRange (groupFields B)
 unfolding groupOk groupFields
 group-in-range B e =
     let t = each _ e in
@@ -32,6 +32,9 @@ group-in-range B e =
     }
 
 module _ (S : List ℕ) {l : Layout} (e : checkOf S ≡ good l) where
+  pub group-listed : (g : ℕ) → g < l .groups → GroupInRange (groupAt S g)
+  group-listed g h = group-in-range (bodyAt S (groupStart S g)) (good-schedule S e .groups g h)
+
   only-group : (first second : ℕ) {g : GroupPlace} → groupFound S (l .groups) first second ≡ found g → Only (l .groups) (groupIs S first second) (g .index)
   only-group first second f = only (good-schedule S e .groupOnce first second) (group-found S (l .groups) first second (sym f))
 
@@ -40,8 +43,7 @@ module _ (S : List ℕ) {l : Layout} (e : checkOf S ≡ good l) where
 
   group-range : (first second : ℕ) {g : GroupPlace} → groupFound S (l .groups) first second ≡ found g → GroupInRange (g .fields)
   group-range first second {g} f =
-      rw (group-at first second f)
-      (group-in-range (bodyAt S (groupStart S (g .index))) (good-schedule S e .groups (g .index) (only-group first second f .inside)))
+      rw (group-at first second f) (group-listed (g .index) (only-group first second f .inside))
 
   no-group : (first second : ℕ) → groupFound S (l .groups) first second ≡ unlisted → (i : ℕ) → i < l .groups → groupIs S first second i ≡ false
   unfolding groupListed

@@ -20,20 +20,14 @@ use Rattle.rules.specs.Marks.{places, dayOf, groupOf, codeAt}
 use Rattle.rules.specs.declared.Totals.{Totals}
 use Rattle.rules.proofs.Verdict.{code-most, Fitting, fitting, exempt-code, verdict-code}
 use Rattle.schedule.specs.Calendar.{daysIn, inEffect}
-use Rattle.schedule.specs.Lookup.{groupAt, bodyAt, groupStart}
-use Rattle.schedule.specs.Check.{good, checkOf}
+use Rattle.schedule.specs.Lookup.{groupAt}
 use Rattle.schedule.specs.declared.scan.Layout.{Layout}
-use Rattle.schedule.proofs.Found.{group-in-range}
-use Rattle.schedule.proofs.Good.{good-schedule}
+use Rattle.schedule.proofs.Found.{group-listed}
 use Rattle.schedule.proofs.Laws.{days-most}
 use Rattle.book.specs.Book.{none, cells}
 use Rattle.statement.specs.Statement.{terms, isSpoilt, spoilt}
 use Rattle.statement.specs.Parts.{Unspoilt, Within, withDay, sumsTo}
 use Rattle.statement.specs.declared.month.MonthSums.{MonthSums}
-
--- the benchmark of a listed group is in range
-pub benchmark-range : (S : List ℕ) {l : Layout} → checkOf S ≡ good l → (g : ℕ) → g < l .groups → within 1 100000 (groupAt S g .benchmark) ≡ true
-benchmark-range S e g h = group-in-range (bodyAt S (groupStart S g)) (good-schedule S e .groups g h) .benchmark
 
 -- a cell of a day in effect stands at one of the places that 22 looks at
 module _ (S : List ℕ) {l : Layout} (c : Cells) (ok : Unspoilt S l c) (g day : ℕ) (h : g < 32) (on : inEffect (l .month) (l .closed) day ≡ true) where
@@ -55,7 +49,7 @@ pub verdict-place : (S : List ℕ) {l : Layout} (c : Cells) → Unspoilt S l c �
 verdict-place S {l} c ok i e =
     let h = ltb-true (groupOf i) (l .groups) (and-left (ltb (groupOf i) (l .groups)) _ e) in
     let on = and-right (ltb (groupOf i) (l .groups)) _ e in
-    let b = benchmark-range S (ok .checked) (groupOf i) h in
+    let b = group-listed S (ok .checked) (groupOf i) h .benchmark in
     rw e (verdict-code 1 (c (groupOf i) (dayOf i)) (groupAt S (groupOf i) .benchmark) (lit≤ tt) (cell-fits S c ok (groupOf i) (dayOf i) (omega arith) on) b)
 
 -- and a code is small

@@ -32,7 +32,7 @@ pub(crate) fn group_of(schedule: &[u8], starts: &[usize; 32], g: usize) -> Group
 }
 
 // The groups' exchange groupings.
-pub(crate) fn group_groupings(schedule: &[u8], starts: &[usize; 32]) -> [u8; 32]
+pub(crate) fn exchange_groupings(schedule: &[u8], starts: &[usize; 32]) -> [u8; 32]
     requires { ⌜ now starts ≡ startsOf (now schedule) ⌝ }
     ensures { λ r. ⌜ r ≡ groupingsOf (now (schedule .entry)) ⌝ }
 {

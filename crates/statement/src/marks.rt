@@ -1,17 +1,17 @@
 // Codes are turned into marks.
 use crate::month::fill_codes;
 use crate::month::fill_exempts;
+use rules::WAIVERS;
 use schedule::Layout;
 ghost use mathlib.Core.Bool.{cond, not};
 ghost use mathlib.Core.Path.{_≡_};
-ghost use Prim.Native.Nat.{_+_, _*_, _≤_, _<_};
+ghost use Prim.Native.Nat.{_+_, _≤_, _<_};
 ghost use lib.Dec.{eqb};
 ghost use lib.ListN.{getD};
 ghost use Rattle.wire.specs.Lists.{table};
 ghost use Rattle.wire.specs.Sums.{bit, count};
 ghost use Rattle.rules.specs.Verdict.{version96};
 ghost use Rattle.rules.specs.Marks.{markOf, mark};
-ghost use Rattle.schedule.specs.Lookup.{groupAt};
 ghost use Rattle.book.specs.Book.{cells};
 ghost use Rattle.statement.specs.Statement.{monthOf};
 ghost use Rattle.statement.specs.Parts.{startsOf, Unspoilt, held, Grouped, groupingsOf};
@@ -29,14 +29,14 @@ fn mark_of(code: u8, exempt: bool, before: u16) -> u8
     if exempt {
         return 3;
     }
-    if before < 2 {
+    if before < WAIVERS {
         return 4;
     }
     2
 }
 
 // 1 where a test holds, else 0.
-pub(crate) fn one(test: bool) -> u16
+pub(crate) fn bit(test: bool) -> u16
     ensures { λ r. ⌜ r ≡ bit test ⌝ }
     ensures { λ r. ⌜ r ≤ 1 ⌝ }
 {
@@ -53,7 +53,8 @@ struct Left {
 }
 
 impl Left {
-    fn of(self, grouping: u8) -> u16
+    // The count of one grouping.
+    fn count_in(self, grouping: u8) -> u16
         ensures { λ r. ⌜ r ≡ cond (eqb grouping 1) (self .first) (self .second) ⌝ }
     {
         if grouping == 1 {
@@ -62,7 +63,8 @@ impl Left {
         self.second
     }
 
-    fn with(self, grouping: u8, n: u16) -> Left
+    // The counts with n more in a grouping.
+    fn with_count(self, grouping: u8, n: u16) -> Left
         requires { ⌜ (self .first < 1000) × (self .second < 1000) × (n ≤ 1) ⌝ }
         ensures { λ r. ⌜ (r .first ≡ self .first + cond (eqb grouping 1) n 0) × (r .second ≡ self .second + cond (eqb grouping 2) n 0) ⌝ }
     {
@@ -97,9 +99,9 @@ fn give_marks(mut marks: [u8; 992], exempts: &[bool; 32], groupings: &[u8; 32]) 
         let code = marks[i];
         let exempt = exempts[g];
         let grouping = groupings[g];
-        let before = left.of(grouping);
+        let before = left.count_in(grouping);
         marks[i] = mark_of(code, exempt, before);
-        left = left.with(grouping, one((code == 4) & !exempt));
+        left = left.with_count(grouping, bit((code == 4) & !exempt));
         i += 1;
     }
     marks
@@ -132,7 +134,7 @@ pub(crate) fn count_violations(marks: &[u8; 992]) -> usize
     let mut n: usize = 0;
     let mut i: usize = 0;
     while i < 992 {
-        n += one(marks[i] != 0) as usize;
+        n += bit(marks[i] != 0) as usize;
         i += 1;
     }
     n

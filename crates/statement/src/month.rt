@@ -1,9 +1,9 @@
 // A firm's month in the book: refusal 22, the codes of its places, its sums and exemptions.
 use crate::groups::group_of;
 use book::cell;
-use rules::LIMIT;
 use rules::Totals;
 use rules::days_verdict;
+use rules::fits;
 use schedule::Layout;
 use schedule::days_in;
 use schedule::in_effect;
@@ -14,17 +14,9 @@ ghost use Rattle.wire.specs.Lists.{table};
 ghost use Rattle.rules.specs.Verdict.{version96, fits};
 ghost use Rattle.rules.specs.Month.{exempt};
 ghost use Rattle.rules.specs.Marks.{codeAt};
-ghost use Rattle.schedule.specs.Check.{good, checkOf};
 ghost use Rattle.book.specs.Book.{cells};
 ghost use Rattle.statement.specs.Statement.{terms, isSpoilt, spoilt};
 ghost use Rattle.statement.specs.Parts.{Within, withDay, sumsTo, startsOf, Unspoilt};
-
-// Whether the totals of a day are within the limit.
-fn is_within_limit(t: Totals) -> bool
-    ensures { λ r. ⌜ r ≡ fits 1 t ⌝ }
-{
-    (t.raw <= LIMIT) & (t.score <= LIMIT) & (t.lots <= LIMIT)
-}
 
 // Whether place i is of a day of the month, and has a number above the limit.
 fn spoilt_at(l: Layout, book: &[u64], firm: u8, i: usize) -> bool
@@ -33,7 +25,7 @@ fn spoilt_at(l: Layout, book: &[u64], firm: u8, i: usize) -> bool
 {
     let day = (i / 32 + 1) as u8;
     let t = cell(book, l.groups, firm, (i % 32) as u8, day);
-    (day <= days_in(l.month)) & !is_within_limit(t)
+    (day <= days_in(l.month)) & !fits(1, t)
 }
 
 // Refusal 22: whether a number of the firm, days of the month, is above the limit.

@@ -1,7 +1,7 @@
 -- Laws of sums and counts.
 -- Assumes nothing.
 use Prim.Native.Nat.{ℕ, zero, suc, _+_, _*_, _≤_, _<_, zero-le}
-use mathlib.Core.Bool.{Bool, true, false, cond}
+use mathlib.Core.Bool.{Bool, true, false, cond, _&&_}
 use mathlib.Core.Logic.{⊎-elim}
 use mathlib.Core.Path.{_≡_, refl, ap₂}
 use native.Mathlib.Nat.{le-refl, eq-or-lt-of-le, add-le-add, mul-add, suc-mul}
@@ -38,6 +38,10 @@ pub sum-most : (n b : ℕ) (f : ℕ → ℕ) → ((i : ℕ) → i < n → f i �
 unfolding sum
 sum-most zero b f h = zero-le
 sum-most (suc n) b f h = rw suc-mul (add-le-add (sum-most n b f (λ i l. h i (omega arith))) (h n (le-refl _)))
+
+pub bit-in : (a b : Bool) → cond a (bit b) 0 ≡ bit (a && b)
+bit-in true b = refl
+bit-in false b = refl
 
 pub bit-most : (b : Bool) → bit b ≤ 1
 bit-most true = omega arith

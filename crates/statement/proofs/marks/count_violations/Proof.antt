@@ -21,11 +21,11 @@ abbrev μ-loop : tie.MeasureT-loop
 loop-holds : tie.Need-loop-holds Inv-loop μ-loop
 loop-holds c = rw sum-none (omega arith, refl, omega arith)
 
-element-copy-out-one : tie.Need-element-copy-out-one Inv-loop μ-loop
-element-copy-out-one c = search needs
+element-copy-out-bit : tie.Need-element-copy-out-bit Inv-loop μ-loop
+element-copy-out-bit c = search needs
 
-one-requires : tie.Need-one-requires Inv-loop μ-loop
-one-requires c κs = search needs
+bit-requires : tie.Need-bit-requires Inv-loop μ-loop
+bit-requires c κs = search needs
 
 cast-n : tie.Need-cast-n Inv-loop μ-loop
 cast-n c = search needs
@@ -40,7 +40,7 @@ loop-less : tie.Need-loop-less Inv-loop μ-loop
 loop-less c = search needs
 
 loop-again : tie.Need-loop-again Inv-loop μ-loop
-loop-again c = (search needs, rw (c .one .ensures .0, c .before .before .before .loop .inv .1, sum-more), search needs)
+loop-again c = (search needs, rw (c .bit .ensures .0, c .before .before .before .loop .inv .1, sum-more), search needs)
 
 returns : tie.Need-returns Inv-loop μ-loop
 returns c =
@@ -54,8 +54,8 @@ count-violations-spec =
     Inv-loop
     μ-loop
     loop-holds
-    element-copy-out-one
-    one-requires
+    element-copy-out-bit
+    bit-requires
     cast-n
     add-n
     add-i

@@ -9,11 +9,11 @@ use borrow.Author.Needs.{needs}
 use Rattle.wire.specs.Lists.{table, over}
 use Rattle.wire.specs.Sums.{count}
 use Rattle.wire.proofs.Lists.{joined-none, table-read, table-write, table-done}
-use Rattle.wire.proofs.Sums.{sum-none, sum-more, count-most}
+use Rattle.wire.proofs.Sums.{bit-in, sum-none, sum-more, count-most}
 use Rattle.rules.specs.Marks.{Judged, left as leftIn, mark}
 use Rattle.rules.specs.Verdict.{version96}
 use Rattle.statement.specs.Parts.{held}
-use Rattle.statement.proofs.Waivers.{bit-in, mark-by}
+use Rattle.statement.proofs.Waivers.{mark-by}
 use Rattle.statement.proofs.marks.give_marks.Statement.{statement}
 use Rattle.statement.proofs.marks.give_marks.Tie as tie
 
@@ -39,8 +39,8 @@ element-copy-out-exempt c = search needs
 element-copy-out-grouping : tie.Need-element-copy-out-grouping Inv-loop μ-loop
 element-copy-out-grouping c = search needs
 
-of-requires : tie.Need-of-requires Inv-loop μ-loop
-of-requires c κs = search needs
+count-in-requires : tie.Need-count-in-requires Inv-loop μ-loop
+count-in-requires c κs = search needs
 
 mark-of-requires : tie.Need-mark-of-requires Inv-loop μ-loop
 mark-of-requires c κs = search needs
@@ -48,15 +48,15 @@ mark-of-requires c κs = search needs
 array-write-marks : tie.Need-array-write-marks Inv-loop μ-loop
 array-write-marks c = search needs
 
-one-requires : tie.Need-one-requires Inv-loop μ-loop
-one-requires c κs = search needs
+bit-requires : tie.Need-bit-requires Inv-loop μ-loop
+bit-requires c κs = search needs
 
-with-requires : tie.Need-with-requires Inv-loop μ-loop
-with-requires c κs =
+with-count-requires : tie.Need-with-count-requires Inv-loop μ-loop
+with-count-requires c κs =
     let l = c .before .before .before .before .before .before in
     let s = l .before in
     let j : Judged = held (s .args .t1) (s .args .exempts .now) (s .args .groupings .now) in
-    omega (arith, count-most (l .loop .i) (leftIn j 1), count-most (l .loop .i) (leftIn j 2), l .loop .inv, c .one .ensures .1)
+    omega (arith, count-most (l .loop .i) (leftIn j 1), count-most (l .loop .i) (leftIn j 2), l .loop .inv, c .bit .ensures .1)
 
 add-i : tie.Need-add-i Inv-loop μ-loop
 add-i c = search needs
@@ -75,11 +75,11 @@ loop-again c =
     let j : Judged = held (a .t1) (a .exempts .now) (a .groupings .now) in
     let read : getD (l .loop .marks) i 0 ≡ getD (a .t1) i 0 = rw (v .1) (table-read (mark version96 j) i (a .t1) 0) in
     let given : c .before .before .mark-of .result ≡ mark version96 j i
-    = rw (c .before .before .mark-of .ensures, read, c .before .before .before .of .ensures, v .2, v .3) (mark-by j i (s .pre i (k .loop-test .taken))) in (
+    = rw (c .before .before .mark-of .ensures, read, c .before .before .before .count-in .ensures, v .2, v .3) (mark-by j i (s .pre i (k .loop-test .taken))) in (
       search needs,
       rw (v .1) (table-write (mark version96 j) i (c .before .before .mark-of .result) (a .t1) (omega (arith, s .good .0 .1 .0 .1)) given),
-      rw (c .with .ensures .0, v .2, c .before .one .ensures .0, read, sum-more, bit-in (eqb (j .grouping i) 1)),
-      rw (c .with .ensures .1, v .3, c .before .one .ensures .0, read, sum-more, bit-in (eqb (j .grouping i) 2)),
+      rw (c .with-count .ensures .0, v .2, c .before .bit .ensures .0, read, sum-more, bit-in (eqb (j .grouping i) 1)),
+      rw (c .with-count .ensures .1, v .3, c .before .bit .ensures .0, read, sum-more, bit-in (eqb (j .grouping i) 2)),
     )
 
 returns : tie.Need-returns Inv-loop μ-loop
@@ -99,11 +99,11 @@ give-marks-spec =
     array-read-code
     element-copy-out-exempt
     element-copy-out-grouping
-    of-requires
+    count-in-requires
     mark-of-requires
     array-write-marks
-    one-requires
-    with-requires
+    bit-requires
+    with-count-requires
     add-i
     loop-less
     loop-again

@@ -9,10 +9,11 @@ use Rattle.wire.proofs.Bools.{and-left}
 use Rattle.rules.specs.Month.{Cells, counted}
 use Rattle.rules.specs.Verdict.{fits}
 use Rattle.schedule.specs.Calendar.{inEffect}
+use Rattle.schedule.proofs.Found.{group-listed}
 use Rattle.book.specs.Book.{cells}
 use Rattle.statement.specs.Parts.{sumsTo}
 use Rattle.statement.specs.Statement.{terms}
-use Rattle.statement.proofs.Exempt.{benchmark-range, cell-fits, exempt-verdict, exempt-past}
+use Rattle.statement.proofs.Exempt.{cell-fits, exempt-verdict, exempt-past}
 use Rattle.statement.proofs.month.is_exempt.Statement.{statement}
 use Rattle.statement.proofs.month.is_exempt.Tie as tie
 
@@ -50,7 +51,7 @@ returns-2 c =
     let fit : (day : ℕ) → counted (terms (a .schedule .now) (a .l)) f (a .g) day ≡ true → fits 1 (f (a .g) day) ≡ true
     = λ day e. cell-fits (a .schedule .now) f ok (a .g) day (s .pre .0) (and-left (inEffect (a .l .month) (a .l .closed) day) _ e) in
     rw (c .days-verdict .ensures, c .before .month-sums .ensures, c .before .before .before .group-of .ensures)
-    (sym (exempt-verdict (terms (a .schedule .now) (a .l)) f (a .g) fit (benchmark-range (a .schedule .now) (ok .checked) (a .g) (k .if1 .left))))
+    (sym (exempt-verdict (terms (a .schedule .now) (a .l)) f (a .g) fit (group-listed (a .schedule .now) (ok .checked) (a .g) (k .if1 .left) .benchmark)))
 
 pub is-exempt-spec : {M : Type 1} → statement M
 is-exempt-spec =

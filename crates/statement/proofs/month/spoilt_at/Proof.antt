@@ -19,13 +19,13 @@ cell-requires c κs = search needs
 days-in-requires : tie.Need-days-in-requires
 days-in-requires c κs = search needs
 
-is-within-limit-requires : tie.Need-is-within-limit-requires
-is-within-limit-requires c κs = search needs
+fits-requires : tie.Need-fits-requires
+fits-requires c κs = search needs
 
 returns : tie.Need-returns
-returns c = rw (c .is-within-limit .ensures, c .before .days-in .ensures, c .before .before .cell .ensures)
+returns c = rw (c .fits2 .ensures, c .before .days-in .ensures, c .before .before .cell .ensures)
 
 pub spoilt-at-spec : {M : Type 1} → statement M
 spoilt-at-spec =
     tie.close
-    (tie.spec add-day cast-day cast-cell cell-requires days-in-requires is-within-limit-requires returns)
+    (tie.spec add-day cast-day cast-cell cell-requires days-in-requires fits-requires returns)

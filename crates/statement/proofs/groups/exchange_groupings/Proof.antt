@@ -9,8 +9,8 @@ use Rattle.wire.specs.Lists.{table, over}
 use Rattle.wire.proofs.Lists.{joined-none, table-write, table-done}
 use Rattle.schedule.specs.Lookup.{groupAt}
 use Rattle.schedule.specs.declared.fields.Group.{Group}
-use Rattle.statement.proofs.groups.group_groupings.Statement.{statement}
-use Rattle.statement.proofs.groups.group_groupings.Tie as tie
+use Rattle.statement.proofs.groups.exchange_groupings.Statement.{statement}
+use Rattle.statement.proofs.groups.exchange_groupings.Tie as tie
 
 abbrev Inv-loop : tie.InvT-loop
 Inv-loop schedule starts groupings₀ g₀ groupings g = (g ≤ 32) × (groupings ≡ over (table g (λ i. groupAt schedule i .grouping)) groupings₀)
@@ -51,8 +51,8 @@ returns c =
     let e : l .loop .g ≡ 32 = omega arith in
     rw e at (l .loop .inv .1) ∙ table-done (λ i. groupAt (s .args .schedule .now) i .grouping) 32 (replicate 32 0) refl
 
-pub group-groupings-spec : {M : Type 1} → statement M
-group-groupings-spec =
+pub exchange-groupings-spec : {M : Type 1} → statement M
+exchange-groupings-spec =
     tie.close
     (tie.spec
     Inv-loop

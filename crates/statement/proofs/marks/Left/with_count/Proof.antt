@@ -4,8 +4,8 @@ use mathlib.Core.Path.{refl, sym}
 use native.Mathlib.Nat.{add-zero}
 use borrow.Author.Needs.{needs}
 use borrow.Author.Tests.{eq-eqb, ne-eqb}
-use Rattle.statement.proofs.marks.Left.with.Statement.{statement}
-use Rattle.statement.proofs.marks.Left.with.Tie as tie
+use Rattle.statement.proofs.marks.Left.with_count.Statement.{statement}
+use Rattle.statement.proofs.marks.Left.with_count.Tie as tie
 
 add-t5 : tie.Need-add-t5
 add-t5 c = search needs
@@ -22,5 +22,5 @@ returns-2 c = rw (ne-eqb _ _ (c .before .before .if1 .left), eq-eqb _ _ (c .befo
 returns-3 : tie.Need-returns-3
 returns-3 c = rw (ne-eqb _ _ (c .before .if1 .left), ne-eqb _ _ (c .if2 .left)) (sym (add-zero _), sym (add-zero _))
 
-pub with-spec : {M : Type 1} → statement M
-with-spec = tie.close (tie.spec add-t5 returns add-t6 returns-2 returns-3)
+pub with-count-spec : {M : Type 1} → statement M
+with-count-spec = tie.close (tie.spec add-t5 returns add-t6 returns-2 returns-3)
