@@ -1,7 +1,8 @@
-// Little-endian numbers of a byte string. Every reader is total: past the end stand zeros.
+// Little-endian numbers of a byte string, and the cut of a run of records. Every reader is total: past the end stand zeros.
 ghost use mathlib.Core.Path.{_≡_};
 ghost use lib.ListN.{getD};
 ghost use Rattle.wire.specs.Bytes.{u16At, u32At};
+ghost use Rattle.wire.specs.Cut.{firstLength};
 
 // The byte at a place.
 pub fn byte_at(s: &[u8], at: usize) -> u8
@@ -31,4 +32,18 @@ pub fn u32_at(s: &[u8], at: usize) -> u32
         return u16_at(s, at) as u32;
     }
     u16_at(s, at) as u32 + 65536 * (u16_at(s, at + 2) as u32)
+}
+
+// How many bytes the first record of a run takes: all of them, where its length field is under four or past the end.
+pub fn first_len(run: &[u8]) -> usize
+    ensures { λ r. ⌜ r ≡ firstLength (now (run .entry)) ⌝ }
+{
+    let len = u16_at(run, 0) as usize;
+    if len < 4 {
+        return run.len();
+    }
+    if run.len() < len {
+        return run.len();
+    }
+    len
 }
