@@ -2,30 +2,31 @@
 -- groupings show is what its month shows.
 -- Assumes nothing.
 use Prim.Native.Nat.{ℕ, _+_, _*_, _≤_, _<_}
-use mathlib.Core.Bool.{true, false, not}
+use mathlib.Core.Bool.{Bool, true, false, cond, not}
 use mathlib.Core.List.{List}
-use mathlib.Core.Path.{_≡_, ap, _∙_}
+use mathlib.Core.Path.{_≡_, refl, ap, _∙_}
 use native.Mathlib.Omega.{arith}
 use lib.Dec.{eqb}
 use lib.ListN.{length, drop}
-use borrow.Author.Tests.{lt-ltb, le-ltb}
+use borrow.Author.Tests.{eqb-true, ltb-false, lt-ltb, le-ltb}
 use Rattle.wire.specs.Lists.{table, over}
 use Rattle.wire.specs.Sums.{bit, count}
-use Rattle.wire.proofs.Choose.{Chosen, here, next, done, chosen}
+use Rattle.wire.proofs.Choose.{Chosen, here, next, done, chosen, passed}
 use Rattle.wire.proofs.Lists.{table-at}
 use Rattle.wire.proofs.Sums.{sum-same}
 use Rattle.rules.specs.Verdict.{version96}
 use Rattle.rules.specs.Month.{Cells}
 use Rattle.rules.specs.Marks.{places, groupOf, mark}
-use Rattle.schedule.specs.Check.{good}
+use Rattle.schedule.specs.Check.{Outcome, refused, good}
 use Rattle.schedule.specs.Lookup.{groupAt, firmListed}
 use Rattle.schedule.specs.declared.scan.Layout.{Layout}
+use Rattle.schedule.proofs.Good.{refused-good}
 use Rattle.book.specs.Book.{cells, checkBook}
 use Rattle.statement.specs.Lines.{shown}
-use Rattle.statement.specs.Statement.{monthOf, statementBytes, spoilt, need, causes, cause, StatementIs}
+use Rattle.statement.specs.Statement.{monthOf, statementBytes, spoilt, need, firmMonth, causes, cause, statementAnswer, StatementIs}
 use Rattle.statement.specs.Parts.{ListedAt, groupingsOf, heldMark, heldGrouping}
 use Rattle.statement.specs.declared.Stated.the-variants as stated
-use Rattle.statement.proofs.Shown.{marks-count, shown-same}
+use Rattle.statement.proofs.Shown.{marks-count, bytes-length, shown-same}
 
 -- an unlisted firm
 pub is-21 : (S B C out : List ℕ) {l : Layout} → checkBook S (length B) ≡ good l → firmListed S (l .start) (l .firms) C ≡ false
@@ -61,6 +62,28 @@ module _ (S B C out : List ℕ) (l : Layout) (f : ℕ) (at : ListedAt S l B C f)
     is-written h =
         let n = cause-after S B C out l (at .listed) (next (rw (at .place) at unspoilt) (next (rw (at .place) at (le-ltb _ _ h)) done)) in
         record { answer = rw (at .checked, n, at .place); output = rw (at .checked, n, at .place) }
+
+-- a statement that is written has its two totals, and lies within the output
+module _ (S B C out : List ℕ) where
+  pub written-bounds : {n : ℕ} → statementAnswer S B C out ≡ good n → (36 ≤ n) × (n ≤ length out)
+  unfolding cause
+  written-bounds {n} e = go (checkBook S (length B)) refl
+    where
+      under : (l : Layout) → (b : Bool) → eqb (cause S B C l (length out)) 0 ≡ b
+          → cond b (good (length (statementBytes S (firmMonth S B C l)))) (refused (cause S B C l (length out)) 0) ≡ good n
+          → (36 ≤ n) × (n ≤ length out)
+      under l true z w =
+          let j = firmMonth S B C l in
+          let tests = passed (causes S B C l (length out)) refl (eqb-true (cause S B C l (length out)) 0 z) in
+          let fits = ltb-false (length out) (need j) (tests .1 .1 .0) in
+          let n-is : length (statementBytes S j) ≡ n = cc in
+          let size = bytes-length S j in
+          (omega arith, omega arith)
+      under l false z w = absurd (refused-good w)
+
+      go : (x : Outcome Layout) → checkBook S (length B) ≡ x → (36 ≤ n) × (n ≤ length out)
+      go (refused number offset) q = absurd (refused-good (rw q at e))
+      go (good l) q = under l (eqb (cause S B C l (length out)) 0) refl (rw q at e)
 
 -- arrays that hold a month's marks, and the groupings of the schedule's groups
 module _ (S : List ℕ) (l : Layout) (c : Cells) (marks groupings : List ℕ)
