@@ -1,0 +1,5 @@
+pub mod Writing
+pub mod Decimal
+pub mod Cuts
+pub mod FirmLines
+pub mod Posting

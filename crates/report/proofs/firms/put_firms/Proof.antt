@@ -1,0 +1,58 @@
+-- Before each turn the lines of the firms so far are written, and the turn writes those of the next.
+-- Assumes nothing.
+use Prim.Native.Nat.{_-_, _≤_}
+use mathlib.Core.Path.{_≡_}
+use native.Mathlib.Omega.{arith}
+use borrow.Author.Needs.{needs}
+use Rattle.wire.specs.Lists.{joined}
+use Rattle.report.specs.Text.{Wrote}
+use Rattle.report.specs.Report.{statementOf}
+use Rattle.report.proofs.Writing.{wrote-length, wrote-first, wrote-more}
+use Rattle.report.proofs.firms.put_firms.Statement.{statement}
+use Rattle.report.proofs.firms.put_firms.Tie as tie
+
+abbrev Inv-loop : tie.InvT-loop
+Inv-loop out₀ at schedule l book firms next₀ f₀ out next f = Wrote out₀ at (joined f (statementOf schedule l book)) next out × f ≤ firms
+
+abbrev μ-loop : tie.MeasureT-loop
+μ-loop out₀ at schedule l book firms next₀ f₀ out next f = firms - f
+
+cast-firms : tie.Need-cast-firms Inv-loop μ-loop
+cast-firms c = search needs
+
+loop-holds : tie.Need-loop-holds Inv-loop μ-loop
+loop-holds c = (wrote-first _ _ _ (c .before .before .before .before .pre), omega arith)
+
+put-firm-requires : tie.Need-put-firm-requires Inv-loop μ-loop
+put-firm-requires c κs = (c .before .before .loop .inv .0 .within, search needs)
+
+add-f : tie.Need-add-f Inv-loop μ-loop
+add-f c = search needs
+
+loop-less : tie.Need-loop-less Inv-loop μ-loop
+loop-less c = omega (arith, c .before .before .before .before .loop-test .taken)
+
+loop-again : tie.Need-loop-again Inv-loop μ-loop
+loop-again c = (wrote-more (statementOf (c .before .before .before .before .before .before .before .before .before .before .args .schedule .now) (c .before .before .before .before .before .before .before .before .before .before .args .l) (c .before .before .before .before .before .before .before .before .before .before .args .book .now)) _ (c .before .before .before .before .before .loop .inv .0) (c .before .before .put-firm .ensures), omega (arith, c .before .before .before .before .loop-test .taken))
+
+same-length : tie.Need-same-length Inv-loop μ-loop
+same-length c = wrote-length (c .before .loop .inv .0)
+
+returns : tie.Need-returns Inv-loop μ-loop
+returns c = let done : c .before .loop .f ≡ c .before .before .before .before .before .before .args .l .firms = omega (arith, c .before .loop .inv .1, c .loop-test .left) in
+    rw done at (c .before .loop .inv .0)
+
+pub put-firms-spec : {M : Type 1} → statement M
+put-firms-spec =
+    tie.close
+    (tie.spec
+    Inv-loop
+    μ-loop
+    cast-firms
+    loop-holds
+    put-firm-requires
+    add-f
+    loop-less
+    loop-again
+    same-length
+    returns)

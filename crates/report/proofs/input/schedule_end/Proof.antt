@@ -1,0 +1,117 @@
+-- The schedule's end lies as far past `at` as the schedule of the bytes that are left is long. An activity record, or the input's end, leaves none;
+-- any other record moves both by its length, in bounds.
+-- Assumes nothing.
+use Prim.Native.Nat.{ℕ, _+_, _-_, _≤_, _<_}
+use mathlib.Core.List.{List}
+use mathlib.Core.Path.{_≡_, sym, _∙_, ap}
+use native.Mathlib.Nat.{add-sub-cancel-left}
+use native.Mathlib.Omega.{arith}
+use lib.ListN.{length, take, drop, length-drop}
+use lib.Seq.{drop-drop}
+use denote.Ref.{now}
+use borrow.Author.Needs.{needs}
+use Rattle.wire.specs.Cut.{firstLength}
+use Rattle.wire.proofs.Cut.{CutAt, cut-at}
+use Rattle.report.specs.Input.{isActivity, scheduleOf}
+use Rattle.report.proofs.Cuts.{schedule-none, schedule-stops, schedule-longer}
+use Rattle.report.proofs.input.schedule_end.Statement.{statement}
+use Rattle.report.proofs.input.schedule_end.Tie as tie
+
+abbrev Inv-loop : tie.InvT-loop
+Inv-loop input at₀ at = (at + length (scheduleOf (drop at input)) ≡ length (scheduleOf input)) × (at ≤ length input)
+
+abbrev μ-loop : tie.MeasureT-loop
+μ-loop input at₀ at = length input - at
+
+-- the bytes that are left, as a turn of the loop finds them
+abbrev left : tie.In-loop Inv-loop μ-loop → List ℕ
+left c = drop (c .before .loop .at) (now (c .before .before .before .args .input))
+
+-- the loop's test leaves a byte
+left-some : (c : tie.In-loop Inv-loop μ-loop) → 0 < length (left c)
+left-some c = rw length-drop (omega (arith, c .loop-test .taken))
+
+-- the record that was measured
+measured : (c : tie.After-first-len Inv-loop μ-loop)
+    → CutAt (now (c .before .before .before .before .before .args .input)) (c .before .before .before .loop .at) (c .first-len .result)
+measured c = cut-at _ _ _ (c .before .before .loop-test .taken) (c .first-len .ensures)
+
+-- that record is the one tested
+test-first : (c : tie.After-is-activity Inv-loop μ-loop)
+    → c .is-activity .result ≡ isActivity (take (firstLength (left (c .before .before .before .before))) (left (c .before .before .before .before)))
+test-first c = rw (add-sub-cancel-left, measured (c .before .before) .first) at (c .is-activity .ensures)
+
+loop-holds : tie.Need-loop-holds Inv-loop μ-loop
+loop-holds c = (omega arith, omega arith)
+
+sub-first-len : tie.Need-sub-first-len Inv-loop μ-loop
+sub-first-len c = search needs
+
+part-first-len-start : tie.Need-part-first-len-start Inv-loop μ-loop
+part-first-len-start c = search needs
+
+part-first-len-end : tie.Need-part-first-len-end Inv-loop μ-loop
+part-first-len-end c = search needs
+
+first-len-requires : tie.Need-first-len-requires Inv-loop μ-loop
+first-len-requires c κs = search needs
+
+add-is-activity : tie.Need-add-is-activity Inv-loop μ-loop
+add-is-activity c = omega (arith, measured c)
+
+sub-is-activity : tie.Need-sub-is-activity Inv-loop μ-loop
+sub-is-activity c = search needs
+
+part-is-activity-start : tie.Need-part-is-activity-start Inv-loop μ-loop
+part-is-activity-start c = search needs
+
+part-is-activity-end : tie.Need-part-is-activity-end Inv-loop μ-loop
+part-is-activity-end c = omega (arith, measured c)
+
+is-activity-requires : tie.Need-is-activity-requires Inv-loop μ-loop
+is-activity-requires c κs = search needs
+
+add-at : tie.Need-add-at Inv-loop μ-loop
+add-at c = omega (arith, measured (c .before .before .before))
+
+loop-less : tie.Need-loop-less Inv-loop μ-loop
+loop-less c = omega (arith, measured (c .before .before .before))
+
+loop-again : tie.Need-loop-again Inv-loop μ-loop
+loop-again c =
+    let turn = c .before .before .before .before .before in
+    let more = schedule-longer (left turn) (left-some turn) (sym (test-first (c .before)) ∙ c .if1 .left) in
+    (rw (← drop-drop, measured (c .before .before .before) .first) (omega (arith, more, turn .before .loop .inv .0)), measured (c .before .before .before) .most)
+
+returns : tie.Need-returns Inv-loop μ-loop
+returns c =
+    let I = now (c .before .before .before .args .input) in
+    let at = c .before .loop .at in
+    omega (arith, c .loop-test .left, c .before .loop .inv, ap length (schedule-none (drop at I) (omega (arith, c .loop-test .left, length-drop at I))))
+
+returns-2 : tie.Need-returns-2 Inv-loop μ-loop
+returns-2 c =
+    let turn = c .before .before .before .before .before in
+    omega (arith, ap length (schedule-stops (left turn) (left-some turn) (sym (test-first (c .before)) ∙ c .if1 .taken)), turn .before .loop .inv .0)
+
+pub schedule-end-spec : {M : Type 1} → statement M
+schedule-end-spec =
+    tie.close
+    (tie.spec
+    Inv-loop
+    μ-loop
+    loop-holds
+    sub-first-len
+    part-first-len-start
+    part-first-len-end
+    first-len-requires
+    add-is-activity
+    sub-is-activity
+    part-is-activity-start
+    part-is-activity-end
+    is-activity-requires
+    add-at
+    loop-less
+    loop-again
+    returns
+    returns-2)

@@ -1,0 +1,41 @@
+-- Three texts, each after the last.
+-- Assumes nothing.
+use borrow.Author.Needs.{needs}
+use Rattle.report.specs.Lines.{heading}
+use Rattle.report.proofs.Writing.{wrote-then}
+use Rattle.report.proofs.lines.put_heading.Statement.{statement}
+use Rattle.report.proofs.lines.put_heading.Tie as tie
+
+slice-aggregate-put : tie.Need-slice-aggregate-put
+slice-aggregate-put c = search needs
+
+put-requires : tie.Need-put-requires
+put-requires c κs = search needs
+
+put-decimal-requires : tie.Need-put-decimal-requires
+put-decimal-requires c κs = search needs
+
+slice-aggregate-put-2 : tie.Need-slice-aggregate-put-2
+slice-aggregate-put-2 c = search needs
+
+put-requires-2 : tie.Need-put-requires-2
+put-requires-2 c κs = search needs
+
+same-length : tie.Need-same-length
+same-length c = search needs
+
+returns : tie.Need-returns
+unfolding heading
+returns c = wrote-then (wrote-then (c .before .before .before .before .before .before .before .before .before .before .before .put .ensures) (c .before .before .before .before .before .before .before .put-decimal .ensures)) (c .before .before .put2 .ensures)
+
+pub put-heading-spec : {M : Type 1} → statement M
+put-heading-spec =
+    tie.close
+    (tie.spec
+    slice-aggregate-put
+    put-requires
+    put-decimal-requires
+    slice-aggregate-put-2
+    put-requires-2
+    same-length
+    returns)

@@ -1,0 +1,64 @@
+-- A refused record has its line and any other none, and the book is what the post left.
+-- Assumes nothing.
+use mathlib.Core.Path.{sym, ap, _∙_}
+use borrow.Author.Needs.{needs}
+use Rattle.book.specs.Post.{postMeaning}
+use Rattle.report.proofs.Writing.{wrote-none}
+use Rattle.report.proofs.posts.put_post.Statement.{statement}
+use Rattle.report.proofs.posts.put_post.Tie as tie
+
+post-requires : tie.Need-post-requires
+post-requires c κs = search needs
+
+enum-known-number : tie.Need-enum-known-number
+enum-known-number c = search needs
+
+put-refused-requires : tie.Need-put-refused-requires
+put-refused-requires c κs = search needs
+
+enum-told : tie.Need-enum-told
+enum-told c = search needs
+
+enum-told-2 : tie.Need-enum-told-2
+enum-told-2 c = search needs
+
+same-length : tie.Need-same-length
+same-length c = search needs
+
+same-length-2 : tie.Need-same-length-2
+same-length-2 c = search needs
+
+returns : tie.Need-returns
+returns c = let e = sym (c .before .before .before .before .before .before .before .before .before .post .ensures .answer) ∙ ap postMeaning (c .before .before .before .before .before .number .given .1) in
+    (rw e (c .before .before .put-refused .ensures), c .before .before .before .before .before .before .before .before .before .post .ensures .book)
+
+same-length-3 : tie.Need-same-length-3
+same-length-3 c = search needs
+
+returns-2 : tie.Need-returns-2
+returns-2 c = let e = sym (c .before .before .before .before .post .ensures .answer) ∙ ap postMeaning (c .enum-told .given .1) in
+    (rw e (wrote-none _ _ (c .before .before .before .before .before .before .before .before .before .before .pre)), c .before .before .before .before .post .ensures .book)
+
+same-length-4 : tie.Need-same-length-4
+same-length-4 c = search needs
+
+returns-3 : tie.Need-returns-3
+returns-3 c = let e = sym (c .before .before .before .before .post .ensures .answer) ∙ ap postMeaning (c .enum-told2 .given .1) in
+    (rw e (wrote-none _ _ (c .before .before .before .before .before .before .before .before .before .before .pre)), c .before .before .before .before .post .ensures .book)
+
+pub put-post-spec : {M : Type 1} → statement M
+put-post-spec =
+    tie.close
+    (tie.spec
+    post-requires
+    enum-known-number
+    put-refused-requires
+    enum-told
+    enum-told-2
+    same-length
+    same-length-2
+    returns
+    same-length-3
+    returns-2
+    same-length-4
+    returns-3)

@@ -1,0 +1,83 @@
+-- Each turn copies one byte more (`paste-suc`). n is the lesser of the text's length and the bytes that are left, which is `room`, so every index lies
+-- in both.
+-- Assumes nothing.
+use Prim.Native.Nat.{_-_, _≤_}
+use mathlib.Core.Path.{refl, _≡_}
+use native.Mathlib.Omega.{arith}
+use native.Mathlib.Numerals.{add-one}
+use lib.Seq.{paste-zero, paste, paste-suc}
+use lib.ListN.{length, length-set}
+use borrow.Author.Needs.{needs}
+use Rattle.report.proofs.text.put.Statement.{statement}
+use Rattle.report.proofs.text.put.Tie as tie
+
+abbrev Inv-loop : tie.InvT-loop
+Inv-loop out₀ at text n i₀ out i = (out ≡ paste out₀ at text i) × (i ≤ n) × (length out ≡ length out₀)
+
+abbrev μ-loop : tie.MeasureT-loop
+μ-loop out₀ at text n i₀ out i = n - i
+
+sub-least : tie.Need-sub-least Inv-loop μ-loop
+sub-least c = search needs
+
+least-requires : tie.Need-least-requires Inv-loop μ-loop
+least-requires c κs = search needs
+
+loop-holds : tie.Need-loop-holds Inv-loop μ-loop
+loop-holds c = (paste-zero (c .before .before .before .args .out .now) (c .before .before .before .args .at) (c .before .before .before .args .text .now), omega arith, refl)
+
+shared-slice-read-out : tie.Need-shared-slice-read-out Inv-loop μ-loop
+shared-slice-read-out c = omega (arith, c .before .before .before .least .ensures, c .before .loop-test .taken)
+
+add-out : tie.Need-add-out Inv-loop μ-loop
+add-out c = search needs
+
+slice-write-out : tie.Need-slice-write-out Inv-loop μ-loop
+slice-write-out c = omega (arith, c .before .before .before .least .ensures, c .before .loop-test .taken, c .before .before .loop .inv .2, c .before .before .before .before .before .before .pre)
+
+add-i : tie.Need-add-i Inv-loop μ-loop
+add-i c = search needs
+
+loop-less : tie.Need-loop-less Inv-loop μ-loop
+loop-less c = omega (arith, c .before .loop-test .taken)
+
+loop-again : tie.Need-loop-again Inv-loop μ-loop
+loop-again c = (
+  rw (c .before .before .loop .inv .0, add-one) (paste-suc (c .before .before .before .before .before .before .args .out .now) (c .before .before .before .before .before .before .args .at) (c .before .before .before .before .before .before .args .text .now) (c .before .before .loop .i) 0 (omega (arith, c .before .before .before .least .ensures, c .before .loop-test .taken, c .before .before .before .before .before .before .pre)) (omega (arith, c .before .before .before .least .ensures, c .before .loop-test .taken))),
+  omega (arith, c .before .loop-test .taken),
+  rw length-set (c .before .before .loop .inv .2),
+)
+
+add-result : tie.Need-add-result Inv-loop μ-loop
+add-result c = search needs
+
+same-length : tie.Need-same-length Inv-loop μ-loop
+same-length c = c .before .loop .inv .2
+
+returns : tie.Need-returns Inv-loop μ-loop
+returns c = record {
+  next = rw (c .before .before .least .ensures);
+  within = omega (arith, c .before .before .least .ensures, c .before .before .before .before .before .pre, c .before .loop .inv .2);
+  output =
+      let done : c .before .loop .i ≡ c .before .before .least .result = omega (arith, c .loop-test .left, c .before .loop .inv .1) in
+      rw (← c .before .before .least .ensures, ← done) (c .before .loop .inv .0);
+}
+
+pub put-spec : {M : Type 1} → statement M
+put-spec =
+    tie.close
+    (tie.spec
+    Inv-loop
+    μ-loop
+    sub-least
+    least-requires
+    loop-holds
+    shared-slice-read-out
+    add-out
+    slice-write-out
+    add-i
+    loop-less
+    loop-again
+    add-result
+    same-length
+    returns)

@@ -1,0 +1,4 @@
+pub mod Input
+pub mod Text
+pub mod Lines
+pub mod Report

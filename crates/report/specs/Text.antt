@@ -1,0 +1,41 @@
+-- Texts: the bytes of letters and of numbers, and what writing a text into an output means.
+-- Assumes nothing.
+use Prim.Native.Char.{code}
+use Prim.Native.Nat.{ℕ, _+_, _-_, _^_, _≤_, min}
+use Prim.Native.String.{String}
+use Prim.Native.String as string
+use mathlib.Core.List.{List, [], _∷_, _++_}
+use mathlib.Core.Path.{_≡_}
+use lib.Dec.{ltb}
+use lib.ListN.{length}
+use lib.Seq.{paste}
+use Rattle.io.specs.Digits.{digits}
+use Rattle.wire.specs.Choose.{seek}
+
+-- the bytes of a quoted text, in ASCII
+abbrev pub text : String → List ℕ
+text string.[] = []
+text (string._∷_ letter letters) = code letter ∷ text letters
+
+-- how many decimal digits a number below 10 ^ 20 has
+abbrev pub places : ℕ → ℕ
+places n = seek 1 20 (λ k. ltb n (10 ^ k))
+
+-- a number in decimal, with no zeros in front
+unfoldable pub decimal : ℕ → List ℕ
+decimal n = digits 10 (places n) n
+
+-- a space and a number
+abbrev pub field : ℕ → List ℕ
+field n = text " " ++ decimal n
+
+-- how much of the text T has room in the output O from the place `at` on
+abbrev pub room : (O : List ℕ) (at : ℕ) (T : List ℕ) → ℕ
+room O at T = min (length O - at) (length T)
+
+-- what writing T into O from the place `at` on promises, of the answer r and the output O′: the answer is the place after T, within the output;
+-- as much of T as there is room for stands there, and all else stays
+pub record Wrote (O : List ℕ) (at : ℕ) (T : List ℕ) (r : ℕ) (O′ : List ℕ) : Type 0 where
+  pub next : r ≡ at + room O at T
+  pub within : r ≤ length O′
+  pub output : O′ ≡ paste O at T (room O at T)

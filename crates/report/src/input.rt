@@ -1,0 +1,28 @@
+// Where the schedule ends in the program's input.
+use wire::first_len;
+use wire::u16_at;
+ghost use mathlib.Core.Path.{_≡_};
+ghost use lib.ListN.{length};
+ghost use Rattle.report.specs.Input.{isActivity, scheduleOf};
+
+// The record has four bytes or more and the kind 4.
+fn is_activity(record: &[u8]) -> bool
+    ensures { λ r. ⌜ r ≡ isActivity (now («record» .entry)) ⌝ }
+{
+    (4 <= record.len()) & (u16_at(record, 2) == 4)
+}
+
+// The offset of the first activity record, or the input's length.
+pub fn schedule_end(input: &[u8]) -> usize
+    ensures { λ r. ⌜ r ≡ length (scheduleOf (now (input .entry))) ⌝ }
+{
+    let mut at: usize = 0;
+    while at < input.len() {
+        let len = first_len(&input[at..]);
+        if is_activity(&input[at..at + len]) {
+            break;
+        }
+        at += len;
+    }
+    at
+}
