@@ -1,0 +1,60 @@
+-- After i turns the first i numbers are sevens, written over the book as it was.
+-- Assumes nothing.
+use Prim.Native.Nat.{_-_, _≤_}
+use mathlib.Core.Path.{_≡_, refl}
+use native.Mathlib.Omega.{arith}
+use lib.ListN.{length-append, length-drop}
+use borrow.Author.Needs.{needs}
+use Rattle.wire.specs.Lists.{table, over}
+use Rattle.wire.proofs.Lists.{joined-none, table-write, length-table}
+use Rattle.cases.proofs.commands.fill.Statement.{statement}
+use Rattle.cases.proofs.commands.fill.Tie as tie
+
+abbrev Inv-loop : tie.InvT-loop
+Inv-loop book₀ n i₀ book i = (i ≤ n) × (book ≡ over (table i (λ j. 7)) book₀)
+
+abbrev μ-loop : tie.MeasureT-loop
+μ-loop book₀ n i₀ book i = n - i
+
+loop-holds : tie.Need-loop-holds Inv-loop μ-loop
+loop-holds c = rw joined-none (omega arith, refl)
+
+mul-book : tie.Need-mul-book Inv-loop μ-loop
+mul-book c = search needs
+
+slice-write-book : tie.Need-slice-write-book Inv-loop μ-loop
+slice-write-book c = rw (c .before .loop .inv .1) (simp (length-append, length-drop, length-table) (omega arith))
+
+add-i : tie.Need-add-i Inv-loop μ-loop
+add-i c = search needs
+
+loop-less : tie.Need-loop-less Inv-loop μ-loop
+loop-less c = search needs
+
+loop-again : tie.Need-loop-again Inv-loop μ-loop
+loop-again c =
+    let l = c .before .loop in
+    (search needs, rw (l .inv .1) (table-write (λ j. 7) (l .i) 7 (c .before .before .args .book .now) (search needs) refl))
+
+same-length : tie.Need-same-length Inv-loop μ-loop
+same-length c = rw (c .before .loop .inv .1) (simp (length-append, length-drop, length-table) (omega arith))
+
+returns : tie.Need-returns Inv-loop μ-loop
+returns c =
+    let e : c .before .loop .i ≡ c .before .before .args .n = omega arith in
+    rw e at (c .before .loop .inv .1)
+
+pub fill-spec : {M : Type 1} → statement M
+fill-spec =
+    tie.close
+    (tie.spec
+    Inv-loop
+    μ-loop
+    loop-holds
+    mul-book
+    slice-write-book
+    add-i
+    loop-less
+    loop-again
+    same-length
+    returns)

@@ -1,0 +1,17 @@
+-- The lesser of a number and the array's length counts a front of the array.
+-- Assumes nothing.
+use mathlib.Core.Path.{sym}
+use native.Mathlib.Omega.{arith}
+use lib.Seq.{length-take-le}
+use borrow.Author.Needs.{needs}
+use Rattle.cases.proofs.commands.held.Statement.{statement}
+use Rattle.cases.proofs.commands.held.Tie as tie
+
+clamp-requires : tie.Need-clamp-requires
+clamp-requires c κs = search needs
+
+returns : tie.Need-returns
+returns c = (omega arith, sym (length-take-le _ _ (omega arith)))
+
+pub held-spec : {M : Type 1} → statement M
+held-spec = tie.close (tie.spec clamp-requires returns)

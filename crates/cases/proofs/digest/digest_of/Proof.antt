@@ -1,0 +1,66 @@
+-- At each turn the digest so far, with the numbers that are left taken into it, is the digest of them all.
+-- Assumes nothing.
+use Prim.Native.Nat.{_-_, _<_}
+use mathlib.Core.Path.{_≡_, refl, sym}
+use native.Mathlib.Numerals.{add-one}
+use native.Mathlib.Omega.{arith}
+use lib.ListN.{length, drop, drop-of-length-le}
+use lib.Seq.{drop-cons}
+use denote.Ref.{now}
+use borrow.Author.Needs.{needs}
+use Rattle.cases.specs.Digest.{modulus, digestOf}
+use Rattle.cases.proofs.digest.digest_of.Statement.{statement}
+use Rattle.cases.proofs.digest.digest_of.Tie as tie
+
+abbrev Inv-loop : tie.InvT-loop
+Inv-loop book digest₀ i₀ digest i = (digest < modulus) × (digestOf 0 book ≡ digestOf digest (drop i book))
+
+abbrev μ-loop : tie.MeasureT-loop
+μ-loop book digest₀ i₀ digest i = length book - i
+
+loop-holds : tie.Need-loop-holds Inv-loop μ-loop
+loop-holds c = (omega arith, refl)
+
+mul-with-number : tie.Need-mul-with-number Inv-loop μ-loop
+mul-with-number c = search needs
+
+shared-slice-read-with-number : tie.Need-shared-slice-read-with-number Inv-loop μ-loop
+shared-slice-read-with-number c = search needs
+
+with-number-requires : tie.Need-with-number-requires Inv-loop μ-loop
+with-number-requires c κs = search needs
+
+add-i : tie.Need-add-i Inv-loop μ-loop
+add-i c = search needs
+
+loop-less : tie.Need-loop-less Inv-loop μ-loop
+loop-less c = search needs
+
+loop-again : tie.Need-loop-again Inv-loop μ-loop
+unfolding digestOf
+loop-again c =
+    let l = c .before .before .before .loop in
+    let b = c .before .before .before .before .before .args .book .now in
+    let more : l .i < length b = omega arith in
+    (omega arith, rw (c .with-number .ensures, add-one) (rw (drop-cons b (l .i) 0) at (l .inv .1)))
+
+returns : tie.Need-returns Inv-loop μ-loop
+unfolding digestOf
+returns c =
+    let l = c .before .loop in
+    sym (rw (drop-of-length-le (now (c .before .before .before .args .book)) {i = l .i} (omega arith)) at (l .inv .1))
+
+pub digest-of-spec : {M : Type 1} → statement M
+digest-of-spec =
+    tie.close
+    (tie.spec
+    Inv-loop
+    μ-loop
+    loop-holds
+    mul-with-number
+    shared-slice-read-with-number
+    with-number-requires
+    add-i
+    loop-less
+    loop-again
+    returns)

@@ -1,0 +1,179 @@
+// The commands of a script. Each starts past its own byte, and answers the state after it.
+use crate::answers::OUTPUT;
+use crate::answers::print_code;
+use crate::answers::print_digest;
+use crate::answers::print_opened;
+use crate::answers::print_posted;
+use crate::answers::print_refused;
+use crate::answers::print_written;
+use crate::answers::say;
+use crate::digest::digest_of;
+use crate::script::State;
+use crate::script::bytes_of;
+use crate::script::clamp;
+use crate::script::past;
+use crate::script::piece_at;
+use crate::script::u64_at;
+use book::open;
+use book::post;
+use rules::mep_verdict;
+use statement::Stated;
+use statement::statement;
+use wire::u32_at;
+ghost use mathlib.Core.Path.{_≡_};
+ghost use Prim.Native.Nat.{_≤_};
+ghost use lib.ListN.{length};
+ghost use Rattle.io.specs.Counts.{Counts};
+ghost use Rattle.wire.specs.Lists.{table, over};
+
+// Says why a command cannot be run. No other one follows it.
+pub(crate) fn stop(mut state: State, text: &[u8]) -> State
+    ensures { λ r. ⌜ r .at ≡ state .at ⌝ }
+{
+    say(text);
+    state.ended = true;
+    state
+}
+
+// S: the schedule of the calls that follow.
+pub(crate) fn run_schedule(script: &[u8], mut state: State) -> State
+    ensures { λ r. ⌜ state .at ≤ r .at ⌝ }
+{
+    let schedule = piece_at(script, state.at);
+    state.schedule = schedule;
+    state.at = schedule.end;
+    state
+}
+
+// Sets the first n numbers to 7, so that what a call leaves alone can be seen.
+fn fill(book: &mut [u64], n: usize)
+    requires { ⌜ n ≤ length (now book) ⌝ }
+    ensures { λ _. ⌜ now (book .exit) ≡ over (table n (λ i. 7)) (now (book .entry)) ⌝ }
+{
+    let mut i: usize = 0;
+    while i < n {
+        book[i] = 7;
+        i += 1;
+    }
+}
+
+// B: a new book of so many numbers.
+pub(crate) fn run_book(script: &[u8], mut state: State, book: &mut [u64]) -> State
+    ensures { λ r. ⌜ state .at ≤ r .at ⌝ }
+{
+    let numbers = u32_at(script, state.at) as usize;
+    if book.len() < numbers {
+        return stop(state, b"book too large\n");
+    }
+    fill(book, numbers);
+    state.numbers = numbers;
+    state.at = past(script, state.at, 4);
+    state
+}
+
+// How many numbers the book has, of those in its array: this bounds every part of the array that a call gets.
+fn held(book: &[u64], numbers: usize) -> usize
+    ensures { λ r. ⌜ Counts r (now (book .entry)) ⌝ }
+{
+    clamp(numbers, book.len())
+}
+
+// W: one number of the book.
+pub(crate) fn run_write(script: &[u8], mut state: State, book: &mut [u64]) -> State
+    ensures { λ r. ⌜ state .at ≤ r .at ⌝ }
+{
+    let i = u32_at(script, state.at) as usize;
+    if held(book, state.numbers) <= i {
+        return stop(state, b"no such number\n");
+    }
+    let at = past(script, state.at, 4);
+    book[i] = u64_at(script, at);
+    state.at = past(script, at, 8);
+    state
+}
+
+// O: opens the book.
+pub(crate) fn run_open(script: &[u8], state: State, book: &mut [u64]) -> State
+    ensures { λ r. ⌜ state .at ≤ r .at ⌝ }
+{
+    let n = held(book, state.numbers);
+    let schedule = bytes_of(script, state.schedule);
+    print_opened(open(schedule, &mut book[..n]));
+    state
+}
+
+// P: posts a record.
+pub(crate) fn run_post(script: &[u8], mut state: State, book: &mut [u64]) -> State
+    ensures { λ r. ⌜ state .at ≤ r .at ⌝ }
+{
+    let n = held(book, state.numbers);
+    let schedule = bytes_of(script, state.schedule);
+    let piece = piece_at(script, state.at);
+    let record = bytes_of(script, piece);
+    print_posted(post(schedule, &mut book[..n], record));
+    state.at = piece.end;
+    state
+}
+
+// An output before its call, each byte 165, so that what a call leaves alone can be seen.
+fn fresh_output() -> [u8; OUTPUT]
+    ensures { λ r. ⌜ 16384 ≡ length r ⌝ }
+{
+    [165; OUTPUT]
+}
+
+// Writes the statement of a firm into an output, and prints it or why it is refused.
+fn print_statement(schedule: &[u8], book: &[u64], firm: &[u8], out: &mut [u8])
+    requires { ⌜ length (now out) ≤ 16384 ⌝ }
+{
+    match statement(schedule, book, firm, out) {
+        Stated::Refused { number, offset } => print_refused(number, offset),
+        Stated::Written(n) => print_written(n, out),
+    }
+}
+
+// T: the statement of a firm, into an output of so many bytes.
+pub(crate) fn run_statement(script: &[u8], mut state: State, book: &[u64]) -> State
+    ensures { λ r. ⌜ state .at ≤ r .at ⌝ }
+{
+    let piece = piece_at(script, state.at);
+    let size = u32_at(script, piece.end) as usize;
+    if OUTPUT < size {
+        return stop(state, b"output too large\n");
+    }
+    let n = held(book, state.numbers);
+    let schedule = bytes_of(script, state.schedule);
+    let firm = bytes_of(script, piece);
+    let mut out = fresh_output();
+    print_statement(schedule, &book[..n], firm, &mut out[..size]);
+    state.at = past(script, piece.end, 4);
+    state
+}
+
+// The verdict on the raw count, the score, the lots and the benchmark at a place.
+fn verdict_at(script: &[u8], at: usize) -> u64 {
+    mep_verdict(
+        u64_at(script, at),
+        u64_at(script, past(script, at, 8)),
+        u64_at(script, past(script, at, 16)),
+        u64_at(script, past(script, at, 24)),
+    )
+}
+
+// V: the verdict on a day's totals.
+pub(crate) fn run_verdict(script: &[u8], mut state: State) -> State
+    ensures { λ r. ⌜ state .at ≤ r .at ⌝ }
+{
+    print_code(verdict_at(script, state.at));
+    state.at = past(script, state.at, 32);
+    state
+}
+
+// D: the digest of the book.
+pub(crate) fn run_digest(state: State, book: &[u64]) -> State
+    ensures { λ r. ⌜ state .at ≤ r .at ⌝ }
+{
+    let n = held(book, state.numbers);
+    print_digest(n, digest_of(&book[..n]));
+    state
+}

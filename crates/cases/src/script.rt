@@ -1,0 +1,68 @@
+// Where a script stands, and the operands of its commands. Past the script's end stand zeros.
+use wire::u32_at;
+ghost use mathlib.Core.Path.{_≡_};
+ghost use Prim.Native.Nat.{_+_, _-_, _≤_, min, max};
+ghost use lib.ListN.{length, take, drop};
+ghost use Rattle.cases.specs.Script.{u64At};
+
+// A run of the script's bytes: its first place, and the place after its last.
+pub(crate) struct Piece {
+    pub start: usize,
+    pub end: usize,
+}
+
+// The next byte to read, the schedule of the calls, how many numbers the book has, and whether no command is to follow.
+pub(crate) struct State {
+    pub at: usize,
+    pub schedule: Piece,
+    pub numbers: usize,
+    pub ended: bool,
+}
+
+// The lesser of a number and the most that is allowed.
+pub(crate) fn clamp(n: usize, most: usize) -> usize
+    ensures { λ r. ⌜ r ≡ min n most ⌝ }
+{
+    if n < most { n } else { most }
+}
+
+// The place n bytes on, and no further than the script's end; a place past the end stays.
+pub(crate) fn past(script: &[u8], at: usize, n: usize) -> usize
+    ensures { λ r. ⌜ r ≡ max at (min (at + n) (length (now (script .entry)))) ⌝ }
+{
+    if script.len() <= at {
+        return at;
+    }
+    at + clamp(n, script.len() - at)
+}
+
+// The number of eight bytes at a place.
+pub(crate) fn u64_at(script: &[u8], at: usize) -> u64
+    ensures { λ r. ⌜ r ≡ u64At (now (script .entry)) at ⌝ }
+{
+    if script.len() <= at {
+        return 0;
+    }
+    u32_at(script, at) as u64 + 4294967296 * (u32_at(script, at + 4) as u64)
+}
+
+// The piece at a place: its size in four bytes, then its own bytes, which the script's end may cut.
+pub(crate) fn piece_at(script: &[u8], at: usize) -> Piece
+    ensures { λ r. ⌜ at ≤ r .end ⌝ }
+{
+    let start = past(script, at, 4);
+    let size = u32_at(script, at) as usize;
+    Piece {
+        start,
+        end: past(script, start, size),
+    }
+}
+
+// The bytes of a piece, as many of them as the script has.
+pub(crate) fn bytes_of(script: &[u8], piece: Piece) -> &[u8]
+    ensures { λ r. ⌜ now r ≡ take (piece .end - piece .start) (drop (piece .start) (now (script .entry))) ⌝ }
+{
+    let end = clamp(piece.end, script.len());
+    let start = clamp(piece.start, end);
+    &script[start..end]
+}
