@@ -2,3 +2,4 @@ pub mod Input
 pub mod Text
 pub mod Lines
 pub mod Report
+pub mod Example

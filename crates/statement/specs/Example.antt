@@ -27,7 +27,7 @@ use Rattle.statement.specs.Statement.{spoilt, cause, statementAnswer, st
 use Rattle.statement.specs.Demand3.{layout, totalsAfter, amountAfter, Falls}
 
 -- document 01's schedule: October 2019, every day in effect, ES of grouping 1, ABC
-abbrev schedule : List ℕ
+abbrev pub schedule : List ℕ
 schedule = head 0 ++ group 69 83 1 ++ firm
 
 -- a record of ABC in a group: new orders, modifications, cancellations and lots
@@ -43,7 +43,7 @@ abbrev ninth : (first second day : ℕ) → List ℕ
 ninth first second day = orders first second day 0 60001 0 1000
 
 -- document 01's whole run
-abbrev run : List (List ℕ)
+abbrev pub run : List (List ℕ)
 run = fifth 69 83 1 10000 ∷ fifth 69 83 2 10000 ∷ fifth 69 83 3 10000 ∷ ninth 69 83 4 ∷ []
 
 -- its statement: two days automatic, one billed, one severe; grouping 1: 4 0 2 2 2000; grouping 2: 0 0 0 0 0
@@ -57,11 +57,11 @@ runBytes =
     ++ (18 ∷ 0 ∷ 17 ∷ 0 ∷ 2 ∷ 0 ∷ 0 ∷ 0 ∷ 0 ∷ 0 ∷ 0 ∷ 0 ∷ 0 ∷ 0 ∷ 0 ∷ 0 ∷ 0 ∷ 0 ∷ [])
 
 -- day 2 not in effect; ES and ZC of grouping 1, CL of grouping 2
-abbrev threeGroups : List ℕ
+abbrev pub threeGroups : List ℕ
 threeGroups = head 2 ++ group 69 83 1 ++ group 67 76 2 ++ group 90 67 1 ++ firm
 
 -- one failing day more in ES on the day not in effect, one in CL, and one in ZC, which has many lots on another day
-abbrev manyMarks : List (List ℕ)
+abbrev pub manyMarks : List (List ℕ)
 manyMarks =
     fifth 69 83 1 10000 ∷ fifth 69 83 2 10000 ∷ fifth 69 83 3 10000 ∷ fifth 69 83 4 10000 ∷ ninth 69 83 5
     ∷ fifth 67 76 1 10000 ∷ fifth 90 67 1 10000 ∷ orders 90 67 6 1 0 0 1000000 ∷ []

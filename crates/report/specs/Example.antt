@@ -1,0 +1,57 @@
+-- Computed examples of what mep-statement prints: document 01's whole run, and what is refused.
+-- Assumes nothing.
+use Prim.Native.Nat.{ℕ}
+use mathlib.Core.List.{List, [], _∷_, _++_}
+use mathlib.Core.Path.{_≡_, refl}
+use Rattle.wire.specs.Bytes.{u16At, u32At}
+use Rattle.wire.specs.Choose.{choose, all, seekIn}
+use Rattle.wire.specs.Cut.{firstLength, cutIn}
+use Rattle.wire.specs.Lists.{joined}
+use Rattle.wire.specs.Sums.{sum}
+use Rattle.rules.specs.Verdict.{code}
+use Rattle.schedule.specs.Calendar.{daysIn}
+use Rattle.schedule.specs.Counted.{contractListed, contractCounted, inFront, isAfter, isCounted, contractIs}
+use Rattle.schedule.specs.Fields.{isCode, headOk, listed, contract, before, contractBad, contractsOk, groupOk, groupFields, firmOk}
+use Rattle.schedule.specs.Lookup.{groupStart, groupIs, firmIs, groupListed, firmListed}
+use Rattle.schedule.specs.Check.{byKind, isDue, lengthOk, isFull, fieldsOk, isRepeated, cause as recordCause, after, ending, scan, checkOf}
+use Rattle.book.specs.Activity.{totalsOf}
+use Rattle.book.specs.Book.{checkBook}
+use Rattle.book.specs.Post.{cause as postCause}
+use Rattle.book.specs.Accepted.{posted}
+use Rattle.book.specs.Samples.{firm}
+use Rattle.statement.specs.Example.{schedule, run, threeGroups, manyMarks}
+use Rattle.statement.specs.Lines.{lineAt, tally, shown}
+use Rattle.statement.specs.Statement.{spoilt, cause}
+use Rattle.report.specs.Input.{bytesBefore, recordsFrom}
+use Rattle.report.specs.Text.{text, decimal}
+use Rattle.report.specs.Lines.{refusedAt, heading, refusedLine, markWord, charge, counts, violationLine, totalsLine, statementLines}
+use Rattle.report.specs.Report.{zeros, postLines, statementOf, monthLines, report}
+
+-- records as one run of bytes
+abbrev flat : List (List ℕ) → List ℕ
+flat [] = []
+flat (R ∷ rs) = R ++ flat rs
+
+-- after the activity a firm's record, which is no activity, and a tail of two bytes
+abbrev late : List ℕ
+late = firm ++ 44 ∷ 0 ∷ []
+
+pub record Example : Type 0 where
+  -- document 01's whole run
+  pub wholeRun :
+      report (schedule ++ flat run)
+      ≡ text "MPS 24237\nABC 1 ES automatic 0\nABC 2 ES automatic 0\nABC 3 ES billed 1000\nABC 4 ES severe 1000\nABC grouping 1: 4 0 2 2 2000\nABC grouping 2: 0 0 0 0 0\n"
+  -- all four marks, both exchange groupings, and two refused records, whose lines come before the firm's
+  pub fourMarks :
+      report (threeGroups ++ flat manyMarks ++ late)
+      ≡ text "MPS 24237\nrefused 12\nrefused 11\nABC 1 ES automatic 0\nABC 1 CL automatic 0\nABC 1 ZC monthly 0\nABC 3 ES automatic 0\nABC 4 ES billed 1000\nABC 5 ES severe 1000\nABC grouping 1: 5 1 2 2 2000\nABC grouping 2: 1 0 1 0 0\n"
+  -- no activity: all is schedule, and the firm has its totals
+  pub quiet : report schedule ≡ text "MPS 24237\nABC grouping 1: 0 0 0 0 0\nABC grouping 2: 0 0 0 0 0\n"
+  -- a refused schedule prints only its number and offset: no bytes; a firm first; a tail before any activity
+  pub noBytes : report [] ≡ text "refused 4 at 0\n"
+  pub firmFirst : report firm ≡ text "refused 2 at 0\n"
+  pub tail : report (schedule ++ 44 ∷ 0 ∷ []) ≡ text "refused 1 at 35\n"
+
+pub example : Example
+unfolding posted checkBook checkOf scan ending after recordCause postCause isRepeated fieldsOk isFull lengthOk isDue byKind firmListed groupListed firmIs groupIs groupStart firmOk groupOk contractsOk contractBad before contract listed headOk isCode contractIs isCounted isAfter inFront contractCounted contractListed groupFields daysIn sum joined seekIn all choose u32At u16At totalsOf code spoilt cause lineAt tally shown firstLength cutIn bytesBefore recordsFrom decimal refusedAt heading refusedLine markWord charge counts violationLine totalsLine statementLines zeros postLines statementOf monthLines report
+example = record { wholeRun = refl; fourMarks = refl; quiet = refl; noBytes = refl; firmFirst = refl; tail = refl }
