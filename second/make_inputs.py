@@ -216,6 +216,14 @@ def input_of(seed, number):
     return kind, WHOLE[kind](r) if kind in WHOLE else DAMAGED[kind](r, whole_month(r, 3_000))
 
 
+def split_month(seed, number):
+    """A month, and for each firm its code and the month of that firm alone: the same groups, its own records."""
+    month = whole_month(random.Random("split %d %d" % (seed, number)), 50_000)
+    common = b"".join(month.schedule()[:1 + len(month.groups)])
+    return month.bytes(), [(code, common + firm(code) + b"".join(r for r in month.activity if r[4:7] == code))
+                           for code in month.firms]
+
+
 # -------------------------------------------------------------- scripts of calls
 
 def filled_script(r, part):

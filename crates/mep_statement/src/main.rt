@@ -5,6 +5,7 @@ use libc::STDOUT_FILENO;
 use report::report;
 ghost use mathlib.Core.Path.{_≡_};
 ghost use lib.ListN.{length};
+ghost use Rattle.report.specs.Laws.{outputSize};
 
 // One byte more than the program takes, so that a longer input is seen to be too long.
 fn input_buffer() -> [u8; 65_537]
@@ -13,11 +14,11 @@ fn input_buffer() -> [u8; 65_537]
     [0; 65_537]
 }
 
-// More than any report has.
-fn output_buffer() -> [u8; 262_144]
-    ensures { λ r. ⌜ 262144 ≡ length r ⌝ }
+// No report is longer.
+fn output_buffer() -> [u8; 524_288]
+    ensures { λ r. ⌜ outputSize ≡ length r ⌝ }
 {
-    [0; 262_144]
+    [0; 524_288]
 }
 
 fn main() {

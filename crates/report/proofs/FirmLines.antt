@@ -7,9 +7,9 @@ use Rattle.schedule.specs.Check.{refused, good}
 use Rattle.schedule.specs.declared.scan.Layout.{Layout}
 use Rattle.statement.specs.Statement.{statementAnswer, statementOutput}
 use Rattle.report.specs.Lines.{refusedLine, statementLines}
-use Rattle.report.specs.Report.{zeros, codeOf, statementOf}
+use Rattle.report.specs.Report.{statementSize, zeros, codeOf, statementOf}
 
-module _ (S : List ℕ) (l : Layout) (B : List ℕ) (f : ℕ) {C out : List ℕ} (code : C ≡ codeOf S l f) (blank : out ≡ zeros 11940) where
+module _ (S : List ℕ) (l : Layout) (B : List ℕ) (f : ℕ) {C out : List ℕ} (code : C ≡ codeOf S l f) (blank : out ≡ zeros statementSize) where
   pub lines-refused : {n o : ℕ} → statementAnswer S B C out ≡ refused n o → refusedLine n ≡ statementOf S l B f
   unfolding statementOf
   lines-refused e = rw (← code, ← blank, e)

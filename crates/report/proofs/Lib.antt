@@ -3,3 +3,6 @@ pub mod Decimal
 pub mod Cuts
 pub mod FirmLines
 pub mod Posting
+pub mod Bounds
+pub mod Unrefused
+pub mod Laws

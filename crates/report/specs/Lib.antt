@@ -3,3 +3,4 @@ pub mod Text
 pub mod Lines
 pub mod Report
 pub mod Example
+pub mod Laws

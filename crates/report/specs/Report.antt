@@ -1,7 +1,7 @@
 -- What mep-statement prints for an input (document 01, "Eleven marked days, a month and one whole run"). I is the input, S the schedule, l what
 -- it holds, rs the activity records, B the book.
 -- Assumes nothing.
-use Prim.Native.Nat.{ℕ, _+_}
+use Prim.Native.Nat.{ℕ, _+_, _*_}
 use mathlib.Core.Bool.{cond}
 use mathlib.Core.List.{List, [], _∷_, _++_}
 use lib.Dec.{ltb}
@@ -19,11 +19,11 @@ use Rattle.report.specs.Lines.{tooLong, refusedAt, heading, postLine, fi
 
 -- Its book fits 88 firm-groups
 abbrev pub bookSize : ℕ
-bookSize = 8184
+bookSize = 88 * 93
 
 -- room for a line on each of 992 places and two totals
 abbrev pub statementSize : ℕ
-statementSize = 11940
+statementSize = 12 * 992 + 36
 
 -- so many zeros
 unfoldable pub zeros : ℕ → List ℕ

@@ -12,7 +12,7 @@ ghost use lib.ListN.{length, drop};
 ghost use Rattle.wire.specs.Lists.{joined};
 ghost use Rattle.report.specs.Text.{Wrote};
 ghost use Rattle.report.specs.Lines.{violationLine, statementLines};
-ghost use Rattle.report.specs.Report.{zeros, codeOf, statementOf};
+ghost use Rattle.report.specs.Report.{statementSize, zeros, codeOf, statementOf};
 
 // Writes the lines of the first n violations of a statement.
 fn put_violations(out: &mut [u8], at: usize, code: &[u8], records: &[u8], n: usize) -> usize
@@ -54,11 +54,13 @@ fn code_of(schedule: &[u8], l: Layout, f: usize) -> [u8; 3]
     ]
 }
 
-// An output that a statement is never too long for: a line on each of 992 places and two totals.
-fn blank_output() -> [u8; 11_940]
-    ensures { λ r. ⌜ r ≡ zeros 11940 ⌝ }
+// The bytes of a statement with a line on each of 992 places: none is longer.
+const STATEMENT: usize = 12 * 992 + 36;
+
+fn blank_output() -> [u8; STATEMENT]
+    ensures { λ r. ⌜ r ≡ zeros statementSize ⌝ }
 {
-    [0; 11_940]
+    [0; STATEMENT]
 }
 
 // Writes the lines of firm f.

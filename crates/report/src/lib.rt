@@ -17,17 +17,19 @@ use text::put;
 ghost use mathlib.Core.Path.{_≡_};
 ghost use Rattle.wire.specs.Cut.{cut};
 ghost use Rattle.report.specs.Text.{Wrote};
-ghost use Rattle.report.specs.Report.{zeros, monthLines, report};
+ghost use Rattle.report.specs.Report.{bookSize, zeros, monthLines, report};
 pub use input::schedule_end;
 
-// A book for 88 firm-groups.
-fn blank_book() -> [u64; 8_184]
-    ensures { λ r. ⌜ r ≡ zeros 8184 ⌝ }
+// The numbers of a book for 88 firm-groups.
+const BOOK: usize = 88 * 93;
+
+fn blank_book() -> [u64; BOOK]
+    ensures { λ r. ⌜ r ≡ zeros bookSize ⌝ }
 {
-    [0; 8_184]
+    [0; BOOK]
 }
 
-// Writes the report of a month whose schedule is good: heading, refused records, each firm's violations and totals.
+// Writes the report of a month whose schedule and book are good: heading, refused records, each firm's violations and totals.
 fn put_month(out: &mut [u8], schedule: &[u8], l: Layout, run: &[u8]) -> usize
     ensures { λ r. ⌜ Wrote (now (out .entry)) 0 (monthLines (now (schedule .entry)) l (cut (now (run .entry)))) r (now (out .exit)) ⌝ }
 {
@@ -46,7 +48,7 @@ pub fn report(input: &[u8], out: &mut [u8]) -> usize
         return put(out, 0, b"too long\n");
     }
     let end = schedule_end(input);
-    match check_book(&input[..end], 8_184) {
+    match check_book(&input[..end], BOOK) {
         Checked::Refused { number, offset } => put_refused_at(out, 0, number, offset),
         Checked::Good(l) => put_month(out, &input[..end], l, &input[end..]),
     }

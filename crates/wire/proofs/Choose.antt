@@ -6,8 +6,8 @@ use mathlib.Core.List.{List, [], _∷_, _++_, foldl}
 use mathlib.Core.Path.{_≡_, refl, sym, _∙_, ap}
 use native.Mathlib.Numerals.{add-one}
 use native.Mathlib.Omega.{arith}
-use lib.Dec.{eqb}
-use borrow.Author.Tests.{eq-eqb, eqb-true, eqb-false, ltb-true, ltb-false}
+use lib.Dec.{leb, eqb}
+use borrow.Author.Tests.{leb-true, eq-eqb, eqb-true, eqb-false, ltb-true, ltb-false}
 use Rattle.wire.specs.Choose.{choose, all, seekIn, seek, some}
 use Rattle.wire.proofs.Bools.{and-left, and-right, never}
 
@@ -54,6 +54,18 @@ choose-second ((b, n) ∷ cs) ds p = rw (p .0) (choose-second cs ds (p .1))
 pub passed-first : (cs ds : List (Bool × ℕ)) → Passed (cs ++ ds) → Passed cs
 passed-first [] ds p = tt
 passed-first (c ∷ cs) ds p = (p .0, passed-first cs ds (p .1))
+
+-- every value of a table measures at most m
+abbrev pub small : {A : Type 0} → (A → ℕ) → (m : ℕ) → List (Bool × A) → Bool
+small size m [] = true
+small size m (c ∷ cs) = leb (size (c .1)) m && small size m cs
+
+-- then so does what is chosen from it
+pub choose-most : {A : Type 0} (size : A → ℕ) (m : ℕ) (cs : List (Bool × A)) {d : A} → small size m cs ≡ true → size d ≤ m → size (choose cs d) ≤ m
+unfolding choose
+choose-most size m [] t h = h
+choose-most size m ((true, a) ∷ cs) t h = leb-true (size a) m (and-left (leb (size a) m) (small size m cs) t)
+choose-most size m ((false, a) ∷ cs) t h = choose-most size m cs (and-right (leb (size a) m) (small size m cs) t) h
 
 -- every test of a list holds just where each does
 abbrev pub Every : List Bool → Type 0

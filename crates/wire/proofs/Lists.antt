@@ -1,10 +1,10 @@
 -- Laws of lists that are joined place by place, and of a part of a slice that was lent and is back.
 -- Assumes nothing.
-use Prim.Native.Nat.{ℕ, zero, suc, _+_, _-_, _≤_, _<_}
+use Prim.Native.Nat.{ℕ, zero, suc, _+_, _-_, _*_, _≤_, _<_, zero-le}
 use mathlib.Core.List.{List, [], _∷_, _++_, append-assoc, append-nil}
 use mathlib.Core.Logic.{⊎-elim}
 use mathlib.Core.Path.{_≡_, refl, sym, ap, ap₂, _∙_}
-use native.Mathlib.Nat.{le-refl, le-trans, eq-or-lt-of-le, add-zero}
+use native.Mathlib.Nat.{le-refl, le-trans, eq-or-lt-of-le, add-zero, add-le-add, suc-mul}
 use native.Mathlib.Numerals.{add-one}
 use native.Mathlib.Omega.{arith}
 use lib.ListN.{length, take-append-drop, take, drop, length-append, length-drop, length-take, drop-of-length-le, getD, set, List·getD-append}
@@ -110,6 +110,12 @@ module _ {A : Type 0} where
   unfolding joined
   joined-same zero f g h = refl
   joined-same (suc n) f g h = ap₂ _++_ (joined-same n f g (λ i l. h i (omega arith))) (h n (omega arith))
+
+  -- n lists of at most m items
+  pub joined-most : (n m : ℕ) (f : ℕ → List A) → ((i : ℕ) → length (f i) ≤ m) → length (joined n f) ≤ n * m
+  unfolding joined
+  joined-most zero m f h = zero-le
+  joined-most (suc n) m f h = rw (length-append, suc-mul) (add-le-add (joined-most n m f h) (h n))
 
   -- an element read and written behind what is over the front
   module _ (ws xs : List A) where

@@ -1,10 +1,10 @@
 -- Laws of sums and counts.
 -- Assumes nothing.
-use Prim.Native.Nat.{ℕ, zero, suc, _+_, _*_, _≤_, _<_, zero-le}
+use Prim.Native.Nat.{ℕ, zero, suc, _+_, _*_, _%_, _≤_, _<_, min, zero-le}
 use mathlib.Core.Bool.{Bool, true, false, cond, _&&_}
 use mathlib.Core.Logic.{⊎-elim}
 use mathlib.Core.Path.{_≡_, refl, ap₂}
-use native.Mathlib.Nat.{le-refl, eq-or-lt-of-le, add-le-add, mul-add, suc-mul}
+use native.Mathlib.Nat.{le-refl, eq-or-lt-of-le, add-le-add, add-zero, add-suc, mul-add, suc-mul}
 use native.Mathlib.Numerals.{add-one}
 use native.Mathlib.Omega.{arith}
 use Rattle.wire.specs.Sums.{bit, sum, count}
@@ -76,3 +76,21 @@ pub sum-cost : (n d : ℕ) (p : ℕ → Bool) → sum n (λ i. cond (p i) d 0) �
 unfolding sum
 sum-cost zero d p = omega arith
 sum-cost (suc n) d p = cost-step (p n) d _ _ (sum-cost n d p)
+
+-- a test that holds only in the first G of each 32 places
+module _ (p : ℕ → Bool) (G : ℕ) (only : (i : ℕ) → p i ≡ true → i % 32 < G) where
+  -- holds in a block of 32 at no more than G places
+  block-most : (m k : ℕ) → m % 32 ≡ 0 → k ≤ 32 → count (m + k) p ≤ count m p + min k G
+  unfolding sum
+  block-most m zero z h = rw add-zero (omega arith)
+  block-most m (suc k) z h = rw add-suc (go (p (m + k)) refl (block-most m k z (omega arith)))
+    where
+      go : (b : Bool) → p (m + k) ≡ b → count (m + k) p ≤ count m p + min k G → count (m + k) p + bit b ≤ count m p + min (suc k) G
+      go true e ih = omega (arith, only (m + k) e)
+      go false e ih = omega arith
+
+  -- and in d blocks at no more than d times G
+  pub count-blocks : (d : ℕ) → count (d * 32) p ≤ d * G
+  unfolding sum
+  count-blocks zero = zero-le
+  count-blocks (suc d) = rw (suc-mul d 32, suc-mul d G) (omega (arith, count-blocks d, block-most (d * 32) 32 (omega arith) (le-refl _)))
