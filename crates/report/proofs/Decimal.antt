@@ -10,7 +10,7 @@ use lib.ListN.{length, length-append}
 use borrow.Author.Tests.{ltb-true, ltb-false}
 use Rattle.io.specs.Digits.{digits, Fewest}
 use Rattle.wire.proofs.Choose.{Sought, sought-in}
-use Rattle.report.specs.Text.{places, decimal}
+use Rattle.report.specs.Text.{digitCount, decimal}
 
 -- a place before the first that holds the number holds it not, and one after it is not the fewest
 fewest-is : (n k q : ℕ) → n < 10 ^ 20 → Fewest 10 1 n k → Sought 19 1 (λ k. ltb n (10 ^ k)) q → k ≡ q
@@ -34,7 +34,7 @@ fewest-is n k q h f s = go (ltb k q) (ltb q k) refl refl
 
 pub fewest-decimal : (n k : ℕ) → n < 10 ^ 20 → Fewest 10 1 n k → digits 10 k n ≡ decimal n
 unfolding decimal
-fewest-decimal n k h f = ap (λ (k : ℕ). digits 10 k n) (fewest-is n k (places n) h f (sought-in 19 1 (λ k. ltb n (10 ^ k))))
+fewest-decimal n k h f = ap (λ (k : ℕ). digits 10 k n) (fewest-is n k (digitCount n) h f (sought-in 19 1 (λ k. ltb n (10 ^ k))))
 
 -- k digits are k bytes
 digits-length : (b k n : ℕ) → length (digits b k n) ≡ k
@@ -49,8 +49,8 @@ decimal-most n = rw digits-length (sought-in 19 1 (λ k. ltb n (10 ^ k)) .most)
 -- and one below 100 at most two
 pub decimal-two : (n : ℕ) → n < 100 → length (decimal n) ≤ 2
 unfolding decimal
-decimal-two n h = rw digits-length (go (ltb 2 (places n)) refl)
+decimal-two n h = rw digits-length (go (ltb 2 (digitCount n)) refl)
   where
-    go : (b : Bool) → ltb 2 (places n) ≡ b → places n ≤ 2
+    go : (b : Bool) → ltb 2 (digitCount n) ≡ b → digitCount n ≤ 2
     go true e = absurd (omega (arith, ltb-false n 100 (sought-in 19 1 (λ k. ltb n (10 ^ k)) .missed 2 (omega arith) (ltb-true _ _ e))))
-    go false e = ltb-false 2 (places n) e
+    go false e = ltb-false 2 (digitCount n) e

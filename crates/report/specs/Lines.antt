@@ -32,7 +32,7 @@ abbrev pub postLine : Outcome Effect → List ℕ
 postLine (refused number offset) = refusedLine number
 postLine (good effect) = []
 
--- the marks
+-- the words of the marks: 1 severe, 2 billed, 3 monthly, 4 automatic
 unfoldable pub markWord : (mark : ℕ) → List ℕ
 markWord mark =
     choose ((eqb mark 1, text "severe") ∷ (eqb mark 2, text "billed") ∷ (eqb mark 3, text "monthly") ∷ []) (text "automatic")
@@ -59,7 +59,7 @@ module _ (C : List ℕ) where
   statementLines R bytes =
       joined ((bytes - 36) / 12) (λ i. violationLine (drop (12 * i) R)) ++ totalsLine (drop (bytes - 36) R) ++ totalsLine (drop (bytes - 18) R)
 
-  -- a firm's violations and totals; a statement that were refused would say so
+  -- a firm's violations and totals; a statement that is refused would show its number, and in a report none is (Laws.antt, `stated`)
   abbrev pub firmLines : (R : List ℕ) → Outcome ℕ → List ℕ
   firmLines R (refused number offset) = refusedLine number
   firmLines R (good bytes) = statementLines R bytes

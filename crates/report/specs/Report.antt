@@ -21,11 +21,11 @@ use Rattle.report.specs.Lines.{tooLong, refusedAt, heading, postLine, fi
 abbrev pub bookSize : ℕ
 bookSize = 88 * 93
 
--- room for a line on each of 992 places and two totals
+-- an output that no statement is too long for: a line on each of 992 places, and two totals
 abbrev pub statementSize : ℕ
 statementSize = 12 * 992 + 36
 
--- so many zeros
+-- a book or an output before its first use
 unfoldable pub zeros : ℕ → List ℕ
 zeros n = replicate n 0
 

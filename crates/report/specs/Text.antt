@@ -18,12 +18,12 @@ text string.[] = []
 text (string._∷_ letter letters) = code letter ∷ text letters
 
 -- how many decimal digits a number below 10 ^ 20 has
-abbrev pub places : ℕ → ℕ
-places n = seek 1 20 (λ k. ltb n (10 ^ k))
+abbrev pub digitCount : ℕ → ℕ
+digitCount n = seek 1 20 (λ k. ltb n (10 ^ k))
 
 -- a number in decimal, with no zeros in front
 unfoldable pub decimal : ℕ → List ℕ
-decimal n = digits 10 (places n) n
+decimal n = digits 10 (digitCount n) n
 
 -- a space and a number
 abbrev pub field : ℕ → List ℕ
