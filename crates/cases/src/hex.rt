@@ -4,13 +4,14 @@ ghost use mathlib.Core.Path.{_≡_};
 ghost use Prim.Native.Nat.{_*_, _≤_, _<_};
 ghost use lib.ListN.{length};
 ghost use Rattle.io.specs.Counts.{Counts};
+ghost use Rattle.io.specs.Digits.{glyph};
 ghost use Rattle.wire.specs.Lists.{table, over};
-ghost use Rattle.cases.specs.Hex.{hexDigit, hexAt};
+ghost use Rattle.cases.specs.Hex.{hexAt};
 
 // The digit of a number below 16.
 fn hex_digit(n: u8) -> u8
     requires { ⌜ n < 16 ⌝ }
-    ensures { λ r. ⌜ r ≡ hexDigit n ⌝ }
+    ensures { λ r. ⌜ r ≡ glyph n ⌝ }
 {
     if n < 10 { b'0' + n } else { b'a' - 10 + n }
 }

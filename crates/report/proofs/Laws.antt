@@ -11,7 +11,7 @@ use Rattle.report.specs.Text.{room, Wrote}
 use Rattle.report.specs.Report.{report}
 use Rattle.report.specs.Laws.{outputSize, Laws}
 use Rattle.report.proofs.Bounds.{fits}
-use Rattle.report.proofs.Unrefused.{unrefused}
+use Rattle.report.proofs.FirmShown.{firm-shown}
 
 -- a text that has room stands whole over the output's front
 wrote-all : {O T O′ : List ℕ} {r : ℕ} → length T ≤ length O → Wrote O 0 T r O′ → take r O′ ≡ T
@@ -24,5 +24,5 @@ laws =
     record {
       fits = fits;
       whole = λ I O O′ r h w. wrote-all (omega (arith, fits I, h)) w;
-      stated = unrefused;
+      firms = firm-shown;
     }

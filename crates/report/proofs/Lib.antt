@@ -4,5 +4,5 @@ pub mod Cuts
 pub mod FirmLines
 pub mod Posting
 pub mod Bounds
-pub mod Unrefused
+pub mod FirmShown
 pub mod Laws

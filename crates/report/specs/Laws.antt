@@ -1,26 +1,61 @@
 -- What holds of every report (document 01, "Eleven marked days, a month and one whole run"). Proved in proofs/Laws.antt.
 -- Assumes nothing.
-use Prim.Native.Nat.{ℕ, _≤_, _<_}
-use mathlib.Core.List.{List}
+use Prim.Native.Nat.{ℕ, _+_, _*_, _≤_, _<_}
+use mathlib.Core.List.{List, _++_}
 use mathlib.Core.Path.{_≡_}
-use lib.ListN.{length, take}
+use lib.ListN.{length, take, drop}
+use Rattle.wire.specs.Lists.{joined}
+use Rattle.rules.specs.Verdict.{version96}
+use Rattle.rules.specs.Marks.{Judged, violations, marked, billed, amount}
 use Rattle.schedule.specs.Check.{good}
 use Rattle.schedule.specs.declared.scan.Layout.{Layout}
 use Rattle.book.specs.Accepted.{posted}
 use Rattle.book.specs.Book.{checkBook, openBook}
-use Rattle.statement.specs.Statement.{statementAnswer}
-use Rattle.report.specs.Text.{Wrote}
-use Rattle.report.specs.Report.{bookSize, statementSize, zeros, codeOf, report}
+use Rattle.statement.specs.Statement.{statementAnswer, statementOutput}
+use Rattle.statement.specs.Demand3.{monthAfter, afterLines}
+use Rattle.report.specs.Text.{text, field, Wrote}
+use Rattle.report.specs.Lines.{violationLine}
+use Rattle.report.specs.Report.{bookSize, statementSize, zeros, codeOf, statementOf, report}
 
 -- the bytes of the program's output
 abbrev pub outputSize : ℕ
 outputSize = 524288
+
+-- a firm's totals in the exchange grouping e, of its month j: violations, monthly, automatic, billed with severe, and the firm's amount there
+abbrev pub monthTotals : (C : List ℕ) → (e : ℕ) → Judged → List ℕ
+monthTotals C e j =
+    C ++ text " grouping" ++ field e ++ text ":"
+    ++ (field (violations j e) ++ field (marked version96 j e 3) ++ field (marked version96 j e 4) ++ field (billed version96 j e) ++ field (amount version96 j e))
+    ++ text "\n"
+
+-- firm f of the schedule S, after the posts rs to the program's book: its code C, that book B, its statement R, and its month j, which comes from the
+-- schedule and the posts alone
+module _ (S : List ℕ) (l : Layout) (rs : List (List ℕ)) (f : ℕ) where
+  abbrev C : List ℕ
+  C = codeOf S l f
+
+  abbrev B : List ℕ
+  B = posted S (openBook S (zeros bookSize)) rs
+
+  abbrev R : List ℕ
+  R = statementOutput S B C (zeros statementSize)
+
+  abbrev j : Judged
+  j = monthAfter S C rs
+
+  -- what the report shows of it
+  pub record FirmShown : Type 0 where
+    -- its statement is not refused
+    pub answer : statementAnswer S B C (zeros statementSize) ≡ good (afterLines j + 36)
+    -- a line for each violation, then the totals of the two exchange groupings, with what the firm owes
+    pub shown :
+        statementOf S l B f
+        ≡ joined (violations j 1 + violations j 2) (λ i. violationLine C (drop (12 * i) R)) ++ monthTotals C 1 j ++ monthTotals C 2 j
 
 pub record Laws : Type 0 where
   -- no report is longer than the program's output
   pub fits : (I : List ℕ) → length (report I) ≤ outputSize
   -- so the bytes that the program prints are the report, all of it
   pub whole : (I O O′ : List ℕ) (r : ℕ) → outputSize ≤ length O → Wrote O 0 (report I) r O′ → take r O′ ≡ report I
-  -- whatever was posted, no statement is refused: each of the month's firms has its violations and totals
-  pub stated : (S : List ℕ) {l : Layout} → checkBook S bookSize ≡ good l → (rs : List (List ℕ)) (f : ℕ) → f < l .firms
-      → (bytes : ℕ) × (statementAnswer S (posted S (openBook S (zeros bookSize)) rs) (codeOf S l f) (zeros statementSize) ≡ good bytes)
+  -- whatever was posted, each of the month's firms has its violations, and totals that add up to its amount
+  pub firms : (S : List ℕ) {l : Layout} → checkBook S bookSize ≡ good l → (rs : List (List ℕ)) (f : ℕ) → f < l .firms → FirmShown S l rs f

@@ -59,7 +59,7 @@ module _ (C : List ℕ) where
   statementLines R bytes =
       joined ((bytes - 36) / 12) (λ i. violationLine (drop (12 * i) R)) ++ totalsLine (drop (bytes - 36) R) ++ totalsLine (drop (bytes - 18) R)
 
-  -- a firm's violations and totals; a statement that is refused would show its number, and in a report none is (Laws.antt, `stated`)
+  -- a firm's violations and totals; a statement that is refused would show its number, and in a report none is (Laws.antt)
   abbrev pub firmLines : (R : List ℕ) → Outcome ℕ → List ℕ
   firmLines R (refused number offset) = refusedLine number
   firmLines R (good bytes) = statementLines R bytes

@@ -3,10 +3,10 @@
 use Prim.Native.Nat.{ℕ, _+_, _*_, _/_, _%_, _≤_, _<_}
 use mathlib.Core.List.{List, _++_}
 use mathlib.Core.Path.{_≡_, _∙_}
-use native.Mathlib.Nat.{div-div-eq-div-mul}
+use native.Mathlib.Nat.{add-assoc, div-div-eq-div-mul}
 use native.Mathlib.Omega.{arith}
-use lib.ListN.{length, List·getD-eq-default}
-use lib.Seq.{getD-append-add}
+use lib.ListN.{length, drop, List·getD-eq-default}
+use lib.Seq.{getD-append-add, getD-drop}
 use Rattle.wire.specs.Bytes.{u16At, u32At, u16Bytes, u32Bytes}
 
 module _ (S : List ℕ) (i : ℕ) where
@@ -51,3 +51,12 @@ u32-again n rest h =
     let low : n % 256 + 256 * (n / 256 % 256) ≡ n % 65536 = omega arith in
     let high : n / 65536 % 256 + 256 * (n / 16777216 % 256) ≡ n / 65536 = rw (← div-div-eq-div-mul n 65536 256) (two-bytes (n / 65536) (omega arith)) in
     omega arith
+
+-- a number read behind a place
+pub u16-drop : (R : List ℕ) (at i : ℕ) → u16At (drop at R) i ≡ u16At R (at + i)
+unfolding u16At
+u16-drop R at i = rw (getD-drop, getD-drop, add-assoc)
+
+pub u32-drop : (R : List ℕ) (at i : ℕ) → u32At (drop at R) i ≡ u32At R (at + i)
+unfolding u32At
+u32-drop R at i = rw (u16-drop, u16-drop, add-assoc)

@@ -1,19 +1,23 @@
--- In a month's report no firm's statement is refused: the book was opened, the firm is listed, and the output has room for a line on every place.
+-- What a report shows of a firm. Its statement is not refused: the book was opened, the firm is listed, and the output has room for a line on every
+-- place. So demand 3 says what its totals are.
 -- Assumes nothing.
-use Prim.Native.Nat.{ℕ, _+_, _≤_, _<_}
+use Prim.Native.Nat.{ℕ, _+_, _-_, _*_, _/_, _≤_, _<_}
 use mathlib.Core.Bool.{Bool, true, false, cond}
-use mathlib.Core.List.{List, [], _∷_}
+use mathlib.Core.List.{List, [], _∷_, _++_}
 use mathlib.Core.Path.{_≡_, refl, sym, _∙_}
 use native.Mathlib.Nat.{le-refl}
 use native.Mathlib.Omega.{arith}
 use lib.Dec.{eqb}
-use lib.ListN.{length, getD, length-replicate}
+use lib.ListN.{length, getD, drop, length-replicate}
+use lib.Seq.{getD-drop}
 use borrow.Author.Tests.{eq-eqb, le-ltb}
 use Rattle.wire.specs.Choose.{choose}
+use Rattle.wire.specs.Lists.{joined}
+use Rattle.wire.proofs.Bytes.{u16-drop, u32-drop}
 use Rattle.wire.proofs.Choose.{every, some-at}
 use Rattle.wire.proofs.Sums.{count-most}
 use Rattle.rules.specs.Verdict.{isViolation}
-use Rattle.rules.specs.Marks.{places, Judged}
+use Rattle.rules.specs.Marks.{places, Judged, violations}
 use Rattle.schedule.specs.Lookup.{firmStart, firmIs, firmListed}
 use Rattle.schedule.specs.Check.{refused, good}
 use Rattle.schedule.specs.declared.scan.Layout.{Layout}
@@ -23,9 +27,11 @@ use Rattle.book.specs.Accepted.{posted}
 use Rattle.book.proofs.Checked.{sized}
 use Rattle.book.proofs.Laws.{laws}
 use Rattle.statement.specs.Statement.{need, firmMonth, cause, statementAnswer}
-use Rattle.statement.specs.Demand3.{isListed, Run}
+use Rattle.statement.specs.Demand3.{isListed, monthAfter, Run, outputOf, TotalsAt, afterLines}
 use Rattle.statement.proofs.Demand3.{demand3}
-use Rattle.report.specs.Report.{bookSize, statementSize, zeros, codeOf}
+use Rattle.report.specs.Lines.{counts, violationLine, totalsLine, statementLines}
+use Rattle.report.specs.Report.{bookSize, statementSize, zeros, codeOf, statementOf}
+use Rattle.report.specs.Laws.{monthTotals, FirmShown}
 
 -- so many zeros are so many numbers
 zeros-length : (n : ℕ) → length (zeros n) ≡ n
@@ -65,10 +71,27 @@ own-listed : (S : List ℕ) (l : Layout) (f : ℕ) → f < l .firms → firmList
 unfolding firmListed
 own-listed S l f h = some-at (l .firms) (firmIs S (l .start) (codeOf S l f)) f h (own-code S l f)
 
--- after any list of posts the statement of each of the month's firms is written
-pub unrefused : (S : List ℕ) {l : Layout} → checkBook S bookSize ≡ good l → (rs : List (List ℕ)) (f : ℕ) → f < l .firms
-    → (bytes : ℕ) × (statementAnswer S (posted S (openBook S (zeros bookSize)) rs) (codeOf S l f) (zeros statementSize) ≡ good bytes)
-unrefused S {l} e rs f h =
+-- totals that stand in a statement are printed as those of the month
+totals-shown : (C R : List ℕ) (at e : ℕ) (j : Judged) → TotalsAt R at e j → totalsLine C (drop at R) ≡ monthTotals C e j
+unfolding totalsLine counts
+totals-shown C R at e j t =
+    rw (getD-drop, u16-drop, u16-drop, u16-drop, u16-drop, u32-drop, t .grouping, t .violationsAre, t .monthlyAre, t .automaticAre, t .billedAre, t .dollarsAre)
+
+-- the lines of a statement whose totals are those of the month
+lines-shown : (C R : List ℕ) (j : Judged) → TotalsAt R (afterLines j) 1 j → TotalsAt R (afterLines j + 18) 2 j
+    → statementLines C R (afterLines j + 36)
+    ≡ joined (violations j 1 + violations j 2) (λ i. violationLine C (drop (12 * i) R)) ++ monthTotals C 1 j ++ monthTotals C 2 j
+unfolding statementLines
+lines-shown C R j t u =
+    let n : (afterLines j + 36 - 36) / 12 ≡ violations j 1 + violations j 2 = omega arith in
+    let one : afterLines j + 36 - 36 ≡ afterLines j = omega arith in
+    let two : afterLines j + 36 - 18 ≡ afterLines j + 18 = omega arith in
+    rw (n, one, two, totals-shown C R (afterLines j) 1 j t, totals-shown C R (afterLines j + 18) 2 j u)
+
+-- after any list of posts each of the month's firms has its violations and totals
+pub firm-shown : (S : List ℕ) {l : Layout} → checkBook S bookSize ≡ good l → (rs : List (List ℕ)) (f : ℕ) → f < l .firms → FirmShown S l rs f
+unfolding statementOf
+firm-shown S {l} e rs f h =
     let good-schedule = sized S bookSize e .schedule in
     let C : List ℕ = codeOf S l f in
     let B : List ℕ = posted S (openBook S (zeros bookSize)) rs in
@@ -82,4 +105,8 @@ unrefused S {l} e rs f h =
       opened = rw (zeros-length, e);
       roomy = roomy S B C (zeros statementSize) l (rw kept e) (rw zeros-length (le-refl _));
     } in
-    (_, demand3 S C listed .adds-up p .answered)
+    let a = demand3 S C listed .adds-up p in
+    record {
+      answer = a .answered;
+      shown = rw (a .answered) (lines-shown C (outputOf S C p) (monthAfter S C rs) (a .first) (a .second));
+    }
