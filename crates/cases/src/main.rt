@@ -18,7 +18,6 @@ use commands::stop;
 use libc::STDIN_FILENO;
 use script::Piece;
 use script::State;
-use script::past;
 use wire::byte_at;
 ghost use Prim.Native.Nat.{_<_};
 ghost use lib.ListN.{length};

@@ -2,14 +2,13 @@
 -- Assumes nothing.
 use Prim.Native.Nat.{ℕ, _≤_, zero-le}
 use mathlib.Core.List.{List}
-use mathlib.Core.Path.{_≡_, ap, _∙_}
+use mathlib.Core.Path.{_≡_, _∙_}
 use native.Mathlib.Nat.{le-refl}
 use native.Mathlib.Omega.{arith}
 use lib.ListN.{length, take}
 use lib.Seq.{take-all, take-paste}
 use Rattle.report.specs.Text.{room, Wrote}
-use Rattle.report.specs.Report.{report}
-use Rattle.report.specs.Laws.{outputSize, Laws}
+use Rattle.report.specs.Laws.{Laws}
 use Rattle.report.proofs.Bounds.{fits}
 use Rattle.report.proofs.FirmShown.{firm-shown}
 

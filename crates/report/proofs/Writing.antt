@@ -4,7 +4,7 @@ use Prim.Native.Nat.{ℕ, _+_, _-_, _≤_, min}
 use mathlib.Core.Bool.{Bool, true, false}
 use mathlib.Core.List.{List, [], _++_, append-assoc, append-nil}
 use mathlib.Core.Path.{_≡_, refl, sym, ap, ap₂, _∙_}
-use native.Mathlib.Nat.{le-refl, min-le-left, min-le-right, min-eq-left, min-eq-right, min-zero, add-assoc, add-zero}
+use native.Mathlib.Nat.{le-refl, min-le-left, min-le-right, min-eq-right, min-zero, add-assoc, add-zero}
 use native.Mathlib.Omega.{arith}
 use lib.Dec.{leb}
 use lib.ListN.{length, take, drop, length-append}

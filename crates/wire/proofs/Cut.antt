@@ -1,14 +1,14 @@
 -- Laws of a run of records: what its first record takes, and the cut one record at a time.
 -- Assumes nothing.
 use Prim.Native.Nat.{ℕ, zero, suc, _+_, _-_, _≤_, _<_}
-use mathlib.Core.Bool.{Bool, true, false, cond, and-false}
+use mathlib.Core.Bool.{Bool, true, false, and-false}
 use mathlib.Core.List.{List, [], _∷_}
 use mathlib.Core.Path.{_≡_, refl, sym, ap}
 use native.Mathlib.Nat.{le-refl}
 use native.Mathlib.Omega.{arith}
 use lib.Dec.{eqb, leb}
 use lib.ListN.{length, take, drop, length-drop}
-use borrow.Author.Tests.{eqb-false, ne-eqb, le-leb, lt-leb, leb-true, leb-false}
+use borrow.Author.Tests.{eqb-false, ne-eqb, le-leb, lt-leb, leb-true}
 use Rattle.wire.specs.Bytes.{u16At}
 use Rattle.wire.specs.Choose.{within}
 use Rattle.wire.specs.Cut.{firstLength, cutIn, cut}

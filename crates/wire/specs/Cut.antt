@@ -1,7 +1,7 @@
 -- A run of records, cut by length fields (document 01, "Eleven marked days, a month and one whole run").
 -- Assumes nothing.
 use Prim.Native.Nat.{ℕ, zero, suc}
-use mathlib.Core.Bool.{Bool, cond}
+use mathlib.Core.Bool.{cond}
 use mathlib.Core.List.{List, [], _∷_}
 use lib.Dec.{eqb}
 use lib.ListN.{length, take, drop}
