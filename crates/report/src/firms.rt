@@ -63,7 +63,7 @@ fn blank_output() -> [u8; STATEMENT]
     [0; STATEMENT]
 }
 
-// Writes the lines of firm f.
+// Writes the lines of firm f. In a report its statement is never refused (specs/Laws.antt).
 fn put_firm(out: &mut [u8], at: usize, schedule: &[u8], l: Layout, book: &[u64], f: usize) -> usize
     requires { ⌜ at ≤ length (now out) ⌝ }
     requires { ⌜ f ≤ 255 ⌝ }

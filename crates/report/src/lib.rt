@@ -34,6 +34,7 @@ fn put_month(out: &mut [u8], schedule: &[u8], l: Layout, run: &[u8]) -> usize
     ensures { λ r. ⌜ Wrote (now (out .entry)) 0 (monthLines (now (schedule .entry)) l (cut (now (run .entry)))) r (now (out .exit)) ⌝ }
 {
     let mut book = blank_book();
+    // Its answer says nothing new: `check_book` took this schedule and a book of this size.
     open(schedule, &mut book);
     let a = put_heading(out, 0, l.month);
     let b = put_posts(out, a, schedule, &mut book, run);

@@ -1,4 +1,4 @@
-// The lines of a report.
+// The lines of a report. Each writer answers the place after what it wrote, where the next goes on.
 use crate::text::put;
 use crate::text::put_decimal;
 use crate::text::put_field;
