@@ -217,11 +217,15 @@ def input_of(seed, number):
 
 
 def split_month(seed, number):
-    """A month, and for each firm its code and the month of that firm alone: the same groups, its own records."""
+    """A month, and for each firm its code and the month of that firm alone: the same groups, its own posts.
+
+    A record that 11 to 13 refuse is no firm's; one of another kind, if it came first, would be read as part of the schedule.
+    """
     month = whole_month(random.Random("split %d %d" % (seed, number)), 50_000)
     common = b"".join(month.schedule()[:1 + len(month.groups)])
-    return month.bytes(), [(code, common + firm(code) + b"".join(r for r in month.activity if r[4:7] == code))
-                           for code in month.firms]
+    posts = [r for r in month.activity if len(r) == 44 and r[:4] == le(44, 2) + le(4, 2)]
+    own = {code: b"".join(r for r in posts if r[4:7] == code) for code in month.firms}
+    return month.bytes(), [(code, common + firm(code) + own[code]) for code in month.firms]
 
 
 # -------------------------------------------------------------- scripts of calls
