@@ -25,6 +25,7 @@ pub record Posting (S B₀ A O : List ℕ) (at : ℕ) (O′ B : List ℕ) (next 
   pub kept : length B ≡ length B₀
 
 module _ (S B₀ A O : List ℕ) (at : ℕ) where
+  -- nothing is posted yet
   pub posting-none : at ≤ length O → Posting S B₀ A O at O B₀ at 0
   posting-none h = record { done = []; wrote = wrote-none O at h; lines = refl; book = refl; inside = omega arith; kept = refl }
 
@@ -39,6 +40,7 @@ module _ (S B₀ A O : List ℕ) (at : ℕ) where
         let left = length-drop from A in
         cut-next (drop from A) (omega arith) ∙ ap (λ X. Next ∷ cut X) (drop-drop (firstLength (drop from A)) from A)
 
+    -- its line is written and the book is as its post left it
     pub posting-next : {O″ B″ : List ℕ} {next′ : ℕ} → from < length A → Wrote O′ next (postLine (postAnswer S B Next)) next′ O″
         → B″ ≡ postBook S B Next → length B″ ≡ length B → Posting S B₀ A O at O″ B″ next′ (from + firstLength (drop from A))
     unfolding postLines posted

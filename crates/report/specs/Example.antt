@@ -40,13 +40,33 @@ pub record Example : Type 0 where
   -- document 01's whole run
   pub wholeRun :
       report (schedule ++ flat run)
-      ≡ text "MPS 24237\nABC 1 ES automatic 0\nABC 2 ES automatic 0\nABC 3 ES billed 1000\nABC 4 ES severe 1000\nABC grouping 1: 4 0 2 2 2000\nABC grouping 2: 0 0 0 0 0\n"
+      ≡ text "MPS 24237\n"
+      ++ text "ABC 1 ES automatic 0\n"
+      ++ text "ABC 2 ES automatic 0\n"
+      ++ text "ABC 3 ES billed 1000\n"
+      ++ text "ABC 4 ES severe 1000\n"
+      ++ text "ABC grouping 1: 4 0 2 2 2000\n"
+      ++ text "ABC grouping 2: 0 0 0 0 0\n"
   -- all four marks, both exchange groupings, and two refused records, whose lines come before the firm's
   pub fourMarks :
       report (threeGroups ++ flat manyMarks ++ late)
-      ≡ text "MPS 24237\nrefused 12\nrefused 11\nABC 1 ES automatic 0\nABC 1 CL automatic 0\nABC 1 ZC monthly 0\nABC 3 ES automatic 0\nABC 4 ES billed 1000\nABC 5 ES severe 1000\nABC grouping 1: 5 1 2 2 2000\nABC grouping 2: 1 0 1 0 0\n"
+      ≡ text "MPS 24237\n"
+      ++ text "refused 12\n"
+      ++ text "refused 11\n"
+      ++ text "ABC 1 ES automatic 0\n"
+      ++ text "ABC 1 CL automatic 0\n"
+      ++ text "ABC 1 ZC monthly 0\n"
+      ++ text "ABC 3 ES automatic 0\n"
+      ++ text "ABC 4 ES billed 1000\n"
+      ++ text "ABC 5 ES severe 1000\n"
+      ++ text "ABC grouping 1: 5 1 2 2 2000\n"
+      ++ text "ABC grouping 2: 1 0 1 0 0\n"
   -- no activity: all is schedule, and the firm has its totals
-  pub quiet : report schedule ≡ text "MPS 24237\nABC grouping 1: 0 0 0 0 0\nABC grouping 2: 0 0 0 0 0\n"
+  pub quiet :
+      report schedule
+      ≡ text "MPS 24237\n"
+      ++ text "ABC grouping 1: 0 0 0 0 0\n"
+      ++ text "ABC grouping 2: 0 0 0 0 0\n"
   -- a refused schedule prints only its number and offset: no bytes; a firm first; a tail before any activity
   pub noBytes : report [] ≡ text "refused 4 at 0\n"
   pub firmFirst : report firm ≡ text "refused 2 at 0\n"

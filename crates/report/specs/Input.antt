@@ -23,9 +23,10 @@ unfoldable pub recordsFrom : (rs : List (List ℕ)) → List (List ℕ)
 recordsFrom [] = []
 recordsFrom (R ∷ rs) = cond (isActivity R) (R ∷ rs) (recordsFrom rs)
 
--- a schedule, then from the first kind 4 on activity; if there is none, all is schedule
+-- a schedule, then from the first kind 4 on activity (if there is none, all is schedule): the schedule
 abbrev pub scheduleOf : (I : List ℕ) → List ℕ
 scheduleOf I = bytesBefore (cut I)
 
+-- and the activity, each record of which is posted
 abbrev pub activityOf : (I : List ℕ) → List (List ℕ)
 activityOf I = recordsFrom (cut I)

@@ -37,8 +37,15 @@ same-length c = search needs
 
 returns : tie.Need-returns
 unfolding monthLines
-returns c = let book = c .before .before .before .before .before .before .before .before .before .before .before .before .before .before .before .before .«open» .ensures .book ∙ ap (openBook (c .before .before .before .before .before .before .before .before .before .before .before .before .before .before .before .before .before .before .before .before .before .before .args .schedule .now)) (c .before .before .before .before .before .before .before .before .before .before .before .before .before .before .before .before .before .before .blank-book .ensures) in
-    wrote-then (wrote-then (c .before .before .before .before .before .before .before .before .before .before .before .before .before .put-heading .ensures) (rw book at (c .before .before .before .before .before .before .before .before .put-posts .ensures .0))) (rw (c .before .before .before .before .before .before .before .before .put-posts .ensures .1, book) at (c .before .before .put-firms .ensures))
+returns c =
+    let s5 = c .before .before in
+    let s4 = s5 .before .before .before .before .before .before in
+    let s3 = s4 .before .before .before .before .before in
+    let s2 = s3 .before .before .before in
+    let s1 = s2 .before .before in
+    let start = s1 .before .before .before .before in
+    let book = s2 .«open» .ensures .book ∙ ap (openBook (start .args .schedule .now)) (s1 .blank-book .ensures) in
+    wrote-then (wrote-then (s3 .put-heading .ensures) (rw book at (s4 .put-posts .ensures .0))) (rw (s4 .put-posts .ensures .1, book) at (s5 .put-firms .ensures))
 
 pub put-month-spec : {M : Type 1} → statement M
 put-month-spec =

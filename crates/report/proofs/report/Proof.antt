@@ -27,7 +27,9 @@ schedule-end-requires : tie.Need-schedule-end-requires
 schedule-end-requires c κs = search needs
 
 slice-aggregate-check-book : tie.Need-slice-aggregate-check-book
-slice-aggregate-check-book c = rw (schedule-first (c .before .before .before .before .before .args .input .now) (c .before .schedule-end .ensures)) (c .before .schedule-end .ensures)
+slice-aggregate-check-book c =
+    let start = c .before .before .before .before .before in
+    rw (schedule-first (start .args .input .now) (c .before .schedule-end .ensures)) (c .before .schedule-end .ensures)
 
 check-book-requires : tie.Need-check-book-requires
 check-book-requires c κs = search needs
@@ -42,13 +44,22 @@ enum-known-l : tie.Need-enum-known-l
 enum-known-l c = search needs
 
 slice-aggregate-put-month : tie.Need-slice-aggregate-put-month
-slice-aggregate-put-month c = rw (schedule-first (c .before .before .before .before .before .before .before .before .before .before .before .args .input .now) (c .before .before .before .before .before .before .before .schedule-end .ensures)) (c .before .before .before .before .before .before .before .schedule-end .ensures)
+slice-aggregate-put-month c =
+    let s1 = c .before .before .before .before .before .before .before in
+    let start = s1 .before .before .before .before in
+    rw (schedule-first (start .args .input .now) (s1 .schedule-end .ensures)) (s1 .schedule-end .ensures)
 
 sub-put-month : tie.Need-sub-put-month
-sub-put-month c = schedule-most (c .before .before .before .before .before .before .before .before .before .before .before .args .input .now) (c .before .before .before .before .before .before .before .schedule-end .ensures)
+sub-put-month c =
+    let s1 = c .before .before .before .before .before .before .before in
+    let start = s1 .before .before .before .before in
+    schedule-most (start .args .input .now) (s1 .schedule-end .ensures)
 
 part-put-month-start : tie.Need-part-put-month-start
-part-put-month-start c = schedule-most (c .before .before .before .before .before .before .before .before .before .before .before .args .input .now) (c .before .before .before .before .before .before .before .schedule-end .ensures)
+part-put-month-start c =
+    let s1 = c .before .before .before .before .before .before .before in
+    let start = s1 .before .before .before .before in
+    schedule-most (start .args .input .now) (s1 .schedule-end .ensures)
 
 part-put-month-end : tie.Need-part-put-month-end
 part-put-month-end c = search needs
@@ -61,18 +72,33 @@ same-length-2 c = search needs
 
 returns-2 : tie.Need-returns-2
 unfolding report
-returns-2 c = let first = schedule-first (c .before .before .before .before .before .before .before .before .before .before .before .before .before .args .input .now) (c .before .before .before .before .before .before .before .before .before .schedule-end .ensures) in
-    let e = rw first at (sym (c .before .before .before .before .before .before .before .check-book .ensures) ∙ ap meaning (c .before .before .before .before .before .number .given .1)) in
-    rw (le-ltb _ _ (c .before .before .before .before .before .before .before .before .before .before .if1 .left), e) (c .before .before .put-refused-at .ensures)
+returns-2 c =
+    let s5 = c .before .before in
+    let s4 = s5 .before .before .before in
+    let s3 = s4 .before .before in
+    let s2 = s3 .before .before in
+    let s1 = s2 .before in
+    let start = s1 .before .before .before in
+    let first = schedule-first (start .args .input .now) (s2 .schedule-end .ensures) in
+    let e = rw first at (sym (s3 .check-book .ensures) ∙ ap meaning (s4 .number .given .1)) in
+    rw (le-ltb _ _ (s1 .if1 .left), e) (s5 .put-refused-at .ensures)
 
 same-length-3 : tie.Need-same-length-3
 same-length-3 c = search needs
 
 returns-3 : tie.Need-returns-3
 unfolding report
-returns-3 c = let first = schedule-first (c .before .before .before .before .before .before .before .before .before .before .before .before .before .before .before .args .input .now) (c .before .before .before .before .before .before .before .before .before .before .before .schedule-end .ensures) in
-    let e = rw first at (sym (c .before .before .before .before .before .before .before .before .before .check-book .ensures) ∙ ap meaning (c .before .before .before .before .before .before .before .l .given .1)) in
-    rw (le-ltb _ _ (c .before .before .before .before .before .before .before .before .before .before .before .before .if1 .left), e) (rw (first, activity-rest (c .before .before .before .before .before .before .before .before .before .before .before .before .before .before .before .args .input .now) (c .before .before .before .before .before .before .before .before .before .before .before .schedule-end .ensures)) at (c .before .before .put-month .ensures))
+returns-3 c =
+    let s5 = c .before .before in
+    let s4 = s5 .before .before .before .before .before in
+    let s3 = s4 .before .before in
+    let s2 = s3 .before .before in
+    let s1 = s2 .before in
+    let start = s1 .before .before .before in
+    let a = start .args in
+    let first = schedule-first (a .input .now) (s2 .schedule-end .ensures) in
+    let e = rw first at (sym (s3 .check-book .ensures) ∙ ap meaning (s4 .l .given .1)) in
+    rw (le-ltb _ _ (s1 .if1 .left), e) (rw (first, activity-rest (a .input .now) (s2 .schedule-end .ensures)) at (s5 .put-month .ensures))
 
 pub report-spec : {M : Type 1} → statement M
 report-spec =

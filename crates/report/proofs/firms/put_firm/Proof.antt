@@ -40,23 +40,50 @@ slice-aggregate-put-statement-2 : tie.Need-slice-aggregate-put-statement-2
 slice-aggregate-put-statement-2 c = search needs
 
 put-statement-requires : tie.Need-put-statement-requires
-put-statement-requires c κs = let e = sym (c .before .before .before .before .before .before .before .statement .ensures .answer) ∙ ap statedMeaning (c .before .before .before .before .bytes .given .1) in
-    let bounds = written-bounds (c .before .before .before .before .before .before .before .before .before .before .before .before .before .before .before .args .schedule .now) (c .before .before .before .before .before .before .before .before .before .before .before .before .before .before .before .args .book .now) (c .before .before .before .before .before .before .before .before .before .before .before .code-of .result) (c .before .before .before .before .before .before .before .before .before .before .blank-output .result) e in
-    (search needs, (bounds .0, omega (arith, bounds .1, c .before .before .before .before .before .before .before .statement .kept .1 .1 .1 .0)))
+put-statement-requires c κs =
+    let s4 = c .before .before .before .before in
+    let s3 = s4 .before .before .before in
+    let s2 = s3 .before .before .before in
+    let s1 = s2 .before in
+    let start = s1 .before .before .before .before in
+    let a = start .args in
+    let s = s3 .statement in
+    let e = sym (s .ensures .answer) ∙ ap statedMeaning (s4 .bytes .given .1) in
+    let bounds = written-bounds (a .schedule .now) (a .book .now) (s1 .code-of .result) (s2 .blank-output .result) e in
+    (search needs, (bounds .0, omega (arith, bounds .1, s .kept .1 .1 .1 .0)))
 
 same-length : tie.Need-same-length
 same-length c = search needs
 
 returns : tie.Need-returns
-returns c = let e = sym (c .before .before .before .before .before .before .before .before .statement .ensures .answer) ∙ ap statedMeaning (c .before .before .before .before .before .number .given .1) in
-    rw (← lines-refused (c .before .before .before .before .before .before .before .before .before .before .before .before .before .before .before .before .args .schedule .now) (c .before .before .before .before .before .before .before .before .before .before .before .before .before .before .before .before .args .l) (c .before .before .before .before .before .before .before .before .before .before .before .before .before .before .before .before .args .book .now) (c .before .before .before .before .before .before .before .before .before .before .before .before .before .before .before .before .args .f) (c .before .before .before .before .before .before .before .before .before .before .before .before .code-of .ensures) (c .before .before .before .before .before .before .before .before .before .before .before .blank-output .ensures) e) (c .before .before .put-refused .ensures)
+returns c =
+    let s5 = c .before .before in
+    let s4 = s5 .before .before .before in
+    let s3 = s4 .before .before .before in
+    let s2 = s3 .before .before .before in
+    let s1 = s2 .before in
+    let start = s1 .before .before .before .before in
+    let a = start .args in
+    let e = sym (s3 .statement .ensures .answer) ∙ ap statedMeaning (s4 .number .given .1) in
+    let lines = lines-refused (a .schedule .now) (a .l) (a .book .now) (a .f) (s1 .code-of .ensures) (s2 .blank-output .ensures) e in
+    rw (← lines) (s5 .put-refused .ensures)
 
 same-length-2 : tie.Need-same-length-2
 same-length-2 c = search needs
 
 returns-2 : tie.Need-returns-2
-returns-2 c = let e = sym (c .before .before .before .before .before .before .before .before .before .before .statement .ensures .answer) ∙ ap statedMeaning (c .before .before .before .before .before .before .before .bytes .given .1) in
-    rw (← lines-written (c .before .before .before .before .before .before .before .before .before .before .before .before .before .before .before .before .before .before .args .schedule .now) (c .before .before .before .before .before .before .before .before .before .before .before .before .before .before .before .before .before .before .args .l) (c .before .before .before .before .before .before .before .before .before .before .before .before .before .before .before .before .before .before .args .book .now) (c .before .before .before .before .before .before .before .before .before .before .before .before .before .before .before .before .before .before .args .f) (c .before .before .before .before .before .before .before .before .before .before .before .before .before .before .code-of .ensures) (c .before .before .before .before .before .before .before .before .before .before .before .before .before .blank-output .ensures) e (c .before .before .before .before .before .before .before .before .before .before .statement .ensures .output)) (c .before .before .put-statement .ensures)
+returns-2 c =
+    let s5 = c .before .before in
+    let s4 = s5 .before .before .before .before .before in
+    let s3 = s4 .before .before .before in
+    let s2 = s3 .before .before .before in
+    let s1 = s2 .before in
+    let start = s1 .before .before .before .before in
+    let a = start .args in
+    let s = s3 .statement in
+    let e = sym (s .ensures .answer) ∙ ap statedMeaning (s4 .bytes .given .1) in
+    let lines = lines-written (a .schedule .now) (a .l) (a .book .now) (a .f) (s1 .code-of .ensures) (s2 .blank-output .ensures) e (s .ensures .output) in
+    rw (← lines) (s5 .put-statement .ensures)
 
 pub put-firm-spec : {M : Type 1} → statement M
 put-firm-spec =

@@ -33,13 +33,21 @@ loop-less : tie.Need-loop-less Inv-loop μ-loop
 loop-less c = omega (arith, c .before .before .before .before .loop-test .taken)
 
 loop-again : tie.Need-loop-again Inv-loop μ-loop
-loop-again c = (wrote-more (statementOf (c .before .before .before .before .before .before .before .before .before .before .args .schedule .now) (c .before .before .before .before .before .before .before .before .before .before .args .l) (c .before .before .before .before .before .before .before .before .before .before .args .book .now)) _ (c .before .before .before .before .before .loop .inv .0) (c .before .before .put-firm .ensures), omega (arith, c .before .before .before .before .loop-test .taken))
+loop-again c =
+    let s3 = c .before .before in
+    let s2 = s3 .before .before in
+    let s1 = s2 .before in
+    let start = s1 .before .before .before .before .before in
+    let a = start .args in
+    (wrote-more (statementOf (a .schedule .now) (a .l) (a .book .now)) _ (s1 .loop .inv .0) (s3 .put-firm .ensures), omega (arith, s2 .loop-test .taken))
 
 same-length : tie.Need-same-length Inv-loop μ-loop
 same-length c = wrote-length (c .before .loop .inv .0)
 
 returns : tie.Need-returns Inv-loop μ-loop
-returns c = let done : c .before .loop .f ≡ c .before .before .before .before .before .before .args .l .firms = omega (arith, c .before .loop .inv .1, c .loop-test .left) in
+returns c =
+    let start = c .before .before .before .before .before .before in
+    let done : c .before .loop .f ≡ start .args .l .firms = omega (arith, c .before .loop .inv .1, c .loop-test .left) in
     rw done at (c .before .loop .inv .0)
 
 pub put-firms-spec : {M : Type 1} → statement M

@@ -49,9 +49,15 @@ same-length c = search needs
 
 returns : tie.Need-returns
 unfolding statementLines
-returns c = let one = part-lent (c .before .before .before .before .before .before .before .before .before .before .before .before .before .before .before .before .before .args .bytes - 36) (c .before .before .before .before .before .before .before .before .before .before .before .before .before .before .before .before .before .args .records .now) in
-    let two = part-lent (c .before .before .before .before .before .before .before .before .before .before .before .before .before .before .before .before .before .args .bytes - 18) (c .before .before .before .before .before .before .before .before .before .before .before .before .before .before .before .before .before .args .records .now) in
-    wrote-then (wrote-then (c .before .before .before .before .before .before .before .before .before .before .before .before .put-violations .ensures) (rw one at (c .before .before .before .before .before .before .before .put-totals .ensures))) (rw two at (c .before .before .put-totals2 .ensures))
+returns c =
+    let s3 = c .before .before in
+    let s2 = s3 .before .before .before .before .before in
+    let s1 = s2 .before .before .before .before .before in
+    let start = s1 .before .before .before .before .before in
+    let a = start .args in
+    let one = part-lent (a .bytes - 36) (a .records .now) in
+    let two = part-lent (a .bytes - 18) (a .records .now) in
+    wrote-then (wrote-then (s1 .put-violations .ensures) (rw one at (s2 .put-totals .ensures))) (rw two at (s3 .put-totals2 .ensures))
 
 pub put-statement-spec : {M : Type 1} → statement M
 put-statement-spec =

@@ -44,10 +44,16 @@ loop-less : tie.Need-loop-less Inv-loop μ-loop
 loop-less c = omega (arith, c .before .before .before .before .before .loop-test .taken)
 
 loop-again : tie.Need-loop-again Inv-loop μ-loop
-loop-again c = let line = part-lent (12 * c .before .before .before .before .before .before .loop .i) (c .before .before .before .before .before .before .before .before .before .before .args .records .now) in (
-  wrote-more (λ i. violationLine (c .before .before .before .before .before .before .before .before .before .before .args .code .now) (drop (12 * i) (c .before .before .before .before .before .before .before .before .before .before .args .records .now))) _ (c .before .before .before .before .before .before .loop .inv .0) (rw (← line) (c .before .before .put-violation .ensures)),
-  omega (arith, c .before .before .before .before .before .loop-test .taken),
-)
+loop-again c =
+    let s3 = c .before .before in
+    let s2 = s3 .before .before .before in
+    let s1 = s2 .before in
+    let start = s1 .before .before .before .before in
+    let a = start .args in
+    let line = part-lent (12 * s1 .loop .i) (a .records .now) in (
+      wrote-more (λ i. violationLine (a .code .now) (drop (12 * i) (a .records .now))) _ (s1 .loop .inv .0) (rw (← line) (s3 .put-violation .ensures)),
+      omega (arith, s2 .loop-test .taken),
+    )
 
 same-length : tie.Need-same-length Inv-loop μ-loop
 same-length c = wrote-length (c .before .loop .inv .0)

@@ -32,8 +32,14 @@ same-length c = search needs
 
 returns : tie.Need-returns
 unfolding charge
-returns c = rw (← c .before .before .before .before .before .before .before .before .byte-at .ensures, ← c .before .before .before .u32-at .ensures)
-    (wrote-then (wrote-then (c .before .before .before .before .before .before .before .before .before .before .before .before .put .ensures) (c .before .before .before .before .before .before .before .put-mark .ensures)) (c .before .before .put-field .ensures))
+returns c =
+    let s5 = c .before .before in
+    let s4 = s5 .before in
+    let s3 = s4 .before .before .before .before in
+    let s2 = s3 .before in
+    let s1 = s2 .before .before .before .before in
+    rw (← s2 .byte-at .ensures, ← s4 .u32-at .ensures)
+    (wrote-then (wrote-then (s1 .put .ensures) (s3 .put-mark .ensures)) (s5 .put-field .ensures))
 
 pub put-charge-spec : {M : Type 1} → statement M
 put-charge-spec =

@@ -56,8 +56,19 @@ same-length c = search needs
 
 returns : tie.Need-returns
 unfolding counts
-returns c = rw (← c .before .before .before .before .before .before .before .before .before .before .before .before .before .before .before .before .before .before .before .before .before .before .before .u16-at .ensures, ← c .before .before .before .before .before .before .before .before .before .before .before .before .before .before .before .before .before .before .u16-at2 .ensures, ← c .before .before .before .before .before .before .before .before .before .before .before .before .before .u16-at3 .ensures, ← c .before .before .before .before .before .before .before .before .u16-at4 .ensures, ← c .before .before .before .u32-at .ensures)
-    (wrote-then (wrote-then (wrote-then (wrote-then (c .before .before .before .before .before .before .before .before .before .before .before .before .before .before .before .before .before .before .before .before .before .before .put-field .ensures) (c .before .before .before .before .before .before .before .before .before .before .before .before .before .before .before .before .before .put-field2 .ensures)) (c .before .before .before .before .before .before .before .before .before .before .before .before .put-field3 .ensures)) (c .before .before .before .before .before .before .before .put-field4 .ensures)) (c .before .before .put-field5 .ensures))
+returns c =
+    let s10 = c .before .before in
+    let s9 = s10 .before in
+    let s8 = s9 .before .before .before .before in
+    let s7 = s8 .before in
+    let s6 = s7 .before .before .before .before in
+    let s5 = s6 .before in
+    let s4 = s5 .before .before .before .before in
+    let s3 = s4 .before in
+    let s2 = s3 .before .before .before .before in
+    let s1 = s2 .before in
+    rw (← s1 .u16-at .ensures, ← s3 .u16-at2 .ensures, ← s5 .u16-at3 .ensures, ← s7 .u16-at4 .ensures, ← s9 .u32-at .ensures)
+    (wrote-then (wrote-then (wrote-then (wrote-then (s2 .put-field .ensures) (s4 .put-field2 .ensures)) (s6 .put-field3 .ensures)) (s8 .put-field4 .ensures)) (s10 .put-field5 .ensures))
 
 pub put-counts-spec : {M : Type 1} → statement M
 put-counts-spec =

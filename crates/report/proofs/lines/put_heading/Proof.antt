@@ -26,7 +26,11 @@ same-length c = search needs
 
 returns : tie.Need-returns
 unfolding heading
-returns c = wrote-then (wrote-then (c .before .before .before .before .before .before .before .before .before .before .before .put .ensures) (c .before .before .before .before .before .before .before .put-decimal .ensures)) (c .before .before .put2 .ensures)
+returns c =
+    let s3 = c .before .before in
+    let s2 = s3 .before .before .before .before .before in
+    let s1 = s2 .before .before .before .before in
+    wrote-then (wrote-then (s1 .put .ensures) (s2 .put-decimal .ensures)) (s3 .put2 .ensures)
 
 pub put-heading-spec : {M : Type 1} → statement M
 put-heading-spec =

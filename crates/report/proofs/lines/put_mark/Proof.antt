@@ -31,7 +31,11 @@ same-length-2 c = search needs
 
 returns-2 : tie.Need-returns-2
 unfolding markWord
-returns-2 c = rw (chosen (next (ne-eqb _ _ (c .before .before .before .before .before .before .if1 .left)) (here (eq-eqb _ _ (c .before .before .before .before .before .if2 .taken))))) (c .before .before .put2 .ensures)
+returns-2 c =
+    let s3 = c .before .before in
+    let s2 = s3 .before .before .before in
+    let s1 = s2 .before in
+    rw (chosen (next (ne-eqb _ _ (s1 .if1 .left)) (here (eq-eqb _ _ (s2 .if2 .taken))))) (s3 .put2 .ensures)
 
 slice-aggregate-put-3 : tie.Need-slice-aggregate-put-3
 slice-aggregate-put-3 c = search needs
@@ -44,7 +48,12 @@ same-length-3 c = search needs
 
 returns-3 : tie.Need-returns-3
 unfolding markWord
-returns-3 c = rw (chosen (next (ne-eqb _ _ (c .before .before .before .before .before .before .before .if1 .left)) (next (ne-eqb _ _ (c .before .before .before .before .before .before .if2 .left)) (here (eq-eqb _ _ (c .before .before .before .before .before .if3 .taken)))))) (c .before .before .put3 .ensures)
+returns-3 c =
+    let s4 = c .before .before in
+    let s3 = s4 .before .before .before in
+    let s2 = s3 .before in
+    let s1 = s2 .before in
+    rw (chosen (next (ne-eqb _ _ (s1 .if1 .left)) (next (ne-eqb _ _ (s2 .if2 .left)) (here (eq-eqb _ _ (s3 .if3 .taken)))))) (s4 .put3 .ensures)
 
 slice-aggregate-put-4 : tie.Need-slice-aggregate-put-4
 slice-aggregate-put-4 c = search needs
@@ -57,7 +66,12 @@ same-length-4 c = search needs
 
 returns-4 : tie.Need-returns-4
 unfolding markWord
-returns-4 c = rw (chosen (next (ne-eqb _ _ (c .before .before .before .before .before .before .before .if1 .left)) (next (ne-eqb _ _ (c .before .before .before .before .before .before .if2 .left)) (next (ne-eqb _ _ (c .before .before .before .before .before .if3 .left)) done)))) (c .before .before .put4 .ensures)
+returns-4 c =
+    let s4 = c .before .before in
+    let s3 = s4 .before .before .before in
+    let s2 = s3 .before in
+    let s1 = s2 .before in
+    rw (chosen (next (ne-eqb _ _ (s1 .if1 .left)) (next (ne-eqb _ _ (s2 .if2 .left)) (next (ne-eqb _ _ (s3 .if3 .left)) done)))) (s4 .put4 .ensures)
 
 pub put-mark-spec : {M : Type 1} → statement M
 put-mark-spec =

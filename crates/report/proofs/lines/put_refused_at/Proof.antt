@@ -35,7 +35,13 @@ same-length c = search needs
 
 returns : tie.Need-returns
 unfolding refusedAt
-returns c = wrote-then (wrote-then (wrote-then (wrote-then (c .before .before .before .before .before .before .before .before .before .before .before .before .before .before .before .before .before .before .before .before .put .ensures) (c .before .before .before .before .before .before .before .before .before .before .before .before .before .before .before .before .put-decimal .ensures)) (c .before .before .before .before .before .before .before .before .before .before .before .put2 .ensures)) (c .before .before .before .before .before .before .before .put-decimal2 .ensures)) (c .before .before .put3 .ensures)
+returns c =
+    let s5 = c .before .before in
+    let s4 = s5 .before .before .before .before .before in
+    let s3 = s4 .before .before .before .before in
+    let s2 = s3 .before .before .before .before .before in
+    let s1 = s2 .before .before .before .before in
+    wrote-then (wrote-then (wrote-then (wrote-then (s1 .put .ensures) (s2 .put-decimal .ensures)) (s3 .put2 .ensures)) (s4 .put-decimal2 .ensures)) (s5 .put3 .ensures)
 
 pub put-refused-at-spec : {M : Type 1} → statement M
 put-refused-at-spec =

@@ -44,8 +44,16 @@ same-length c = search needs
 
 returns : tie.Need-returns
 unfolding totalsLine
-returns c = rw (← c .before .before .before .before .before .before .before .before .before .before .before .before .before .before .before .before .before .byte-at .ensures)
-    (wrote-then (wrote-then (wrote-then (wrote-then (wrote-then (c .before .before .before .before .before .before .before .before .before .before .before .before .before .before .before .before .before .before .before .before .before .before .before .before .before .before .put .ensures) (c .before .before .before .before .before .before .before .before .before .before .before .before .before .before .before .before .before .before .before .before .before .put2 .ensures)) (c .before .before .before .before .before .before .before .before .before .before .before .before .before .before .before .before .put-field .ensures)) (c .before .before .before .before .before .before .before .before .before .before .before .put3 .ensures)) (c .before .before .before .before .before .before .before .put-counts .ensures)) (c .before .before .put4 .ensures))
+returns c =
+    let s7 = c .before .before in
+    let s6 = s7 .before .before .before .before .before in
+    let s5 = s6 .before .before .before .before in
+    let s4 = s5 .before .before .before .before .before in
+    let s3 = s4 .before in
+    let s2 = s3 .before .before .before .before in
+    let s1 = s2 .before .before .before .before .before in
+    rw (← s3 .byte-at .ensures)
+    (wrote-then (wrote-then (wrote-then (wrote-then (wrote-then (s1 .put .ensures) (s2 .put2 .ensures)) (s4 .put-field .ensures)) (s5 .put3 .ensures)) (s6 .put-counts .ensures)) (s7 .put4 .ensures))
 
 pub put-totals-spec : {M : Type 1} → statement M
 put-totals-spec =

@@ -50,8 +50,18 @@ same-length c = search needs
 
 returns : tie.Need-returns
 unfolding violationLine
-returns c = rw (← c .before .before .before .before .before .before .before .before .before .before .before .before .before .before .before .before .before .before .before .before .before .before .before .before .before .before .before .before .before .byte-at .ensures, ← c .before .before .before .before .before .before .before .before .before .before .before .before .before .before .before .before .before .before .before .before .before .before .before .before .before .before .before .before .byte-at2 .ensures, ← c .before .before .before .before .before .before .before .before .before .before .before .before .before .before .before .before .before .before .before .before .before .before .byte-at3 .ensures)
-    (wrote-then (wrote-then (wrote-then (wrote-then (wrote-then (c .before .before .before .before .before .before .before .before .before .before .before .before .before .before .before .before .before .before .before .before .before .before .before .before .before .before .put .ensures) (c .before .before .before .before .before .before .before .before .before .before .before .before .before .before .before .before .before .before .before .before .before .put-field .ensures)) (c .before .before .before .before .before .before .before .before .before .before .before .before .before .before .before .before .put2 .ensures)) (c .before .before .before .before .before .before .before .before .before .before .before .put3 .ensures)) (c .before .before .before .before .before .before .before .put-charge .ensures)) (c .before .before .put4 .ensures))
+returns c =
+    let s9 = c .before .before in
+    let s8 = s9 .before .before .before .before .before in
+    let s7 = s8 .before .before .before .before in
+    let s6 = s7 .before .before .before .before .before in
+    let s5 = s6 .before .before .before .before .before in
+    let s4 = s5 .before in
+    let s3 = s4 .before .before .before .before in
+    let s2 = s3 .before .before in
+    let s1 = s2 .before in
+    rw (← s1 .byte-at .ensures, ← s2 .byte-at2 .ensures, ← s4 .byte-at3 .ensures)
+    (wrote-then (wrote-then (wrote-then (wrote-then (wrote-then (s3 .put .ensures) (s5 .put-field .ensures)) (s6 .put2 .ensures)) (s7 .put3 .ensures)) (s8 .put-charge .ensures)) (s9 .put4 .ensures))
 
 pub put-violation-spec : {M : Type 1} → statement M
 put-violation-spec =

@@ -29,22 +29,32 @@ same-length-2 : tie.Need-same-length-2
 same-length-2 c = search needs
 
 returns : tie.Need-returns
-returns c = let e = sym (c .before .before .before .before .before .before .before .before .before .post .ensures .answer) ∙ ap postMeaning (c .before .before .before .before .before .number .given .1) in
-    (rw e (c .before .before .put-refused .ensures), c .before .before .before .before .before .before .before .before .before .post .ensures .book)
+returns c =
+    let s3 = c .before .before in
+    let s2 = s3 .before .before .before in
+    let s1 = s2 .before .before .before .before in
+    let e = sym (s1 .post .ensures .answer) ∙ ap postMeaning (s2 .number .given .1) in
+    (rw e (s3 .put-refused .ensures), s1 .post .ensures .book)
 
 same-length-3 : tie.Need-same-length-3
 same-length-3 c = search needs
 
 returns-2 : tie.Need-returns-2
-returns-2 c = let e = sym (c .before .before .before .before .post .ensures .answer) ∙ ap postMeaning (c .enum-told .given .1) in
-    (rw e (wrote-none _ _ (c .before .before .before .before .before .before .before .before .before .before .pre)), c .before .before .before .before .post .ensures .book)
+returns-2 c =
+    let s1 = c .before .before .before .before in
+    let start = s1 .before .before .before .before .before .before in
+    let e = sym (s1 .post .ensures .answer) ∙ ap postMeaning (c .enum-told .given .1) in
+    (rw e (wrote-none _ _ (start .pre)), s1 .post .ensures .book)
 
 same-length-4 : tie.Need-same-length-4
 same-length-4 c = search needs
 
 returns-3 : tie.Need-returns-3
-returns-3 c = let e = sym (c .before .before .before .before .post .ensures .answer) ∙ ap postMeaning (c .enum-told2 .given .1) in
-    (rw e (wrote-none _ _ (c .before .before .before .before .before .before .before .before .before .before .pre)), c .before .before .before .before .post .ensures .book)
+returns-3 c =
+    let s1 = c .before .before .before .before in
+    let start = s1 .before .before .before .before .before .before in
+    let e = sym (s1 .post .ensures .answer) ∙ ap postMeaning (c .enum-told2 .given .1) in
+    (rw e (wrote-none _ _ (start .pre)), s1 .post .ensures .book)
 
 pub put-post-spec : {M : Type 1} → statement M
 put-post-spec =

@@ -4,11 +4,12 @@ use Prim.Native.Nat.{_-_, _+_}
 use mathlib.Core.Path.{_≡_}
 use native.Mathlib.Omega.{arith}
 use lib.ListN.{length, drop}
+use denote.Ref.{now}
 use borrow.Author.Needs.{needs}
 use Rattle.wire.specs.Cut.{firstLength}
-use Rattle.report.proofs.Posting.{Posting, posting-none, posting-all, posting-next}
+use Rattle.wire.proofs.Cut.{CutAt, cut-at}
+use Rattle.report.proofs.Posting.{Posting, posting-none, posting-next, posting-all}
 use Rattle.report.proofs.Writing.{wrote-length}
-use Rattle.wire.proofs.Cut.{cut-at}
 use Rattle.report.proofs.posts.put_posts.Statement.{statement}
 use Rattle.report.proofs.posts.put_posts.Tie as tie
 
@@ -17,6 +18,11 @@ Inv-loop out₀ at schedule book₀ run next₀ from₀ out book next from = Pos
 
 abbrev μ-loop : tie.MeasureT-loop
 μ-loop out₀ at schedule book₀ run next₀ from₀ out book next from = length run - from
+
+-- the record that was measured
+measured : (c : tie.After-first-len Inv-loop μ-loop)
+    → CutAt (now (c .before .before .before .before .before .before .before .before .args .run)) (c .before .before .before .loop .from) (c .first-len .result)
+measured c = cut-at _ _ _ (c .before .before .loop-test .taken) (c .first-len .ensures)
 
 loop-holds : tie.Need-loop-holds Inv-loop μ-loop
 loop-holds c = posting-none _ _ _ _ _ (c .before .before .before .before .pre)
@@ -34,8 +40,7 @@ first-len-requires : tie.Need-first-len-requires Inv-loop μ-loop
 first-len-requires c κs = search needs
 
 add-put-post : tie.Need-add-put-post Inv-loop μ-loop
-add-put-post c = let m = cut-at (c .before .before .before .before .before .before .before .before .before .before .args .run .now) (c .before .before .before .before .before .loop .from) (c .before .before .first-len .result) (c .before .before .before .before .loop-test .taken) (c .before .before .first-len .ensures) in
-    omega (arith, m .most)
+add-put-post c = omega (arith, measured (c .before .before) .most)
 
 sub-put-post : tie.Need-sub-put-post Inv-loop μ-loop
 sub-put-post c = search needs
@@ -44,24 +49,32 @@ part-put-post-start : tie.Need-part-put-post-start Inv-loop μ-loop
 part-put-post-start c = search needs
 
 part-put-post-end : tie.Need-part-put-post-end Inv-loop μ-loop
-part-put-post-end c = let m = cut-at (c .before .before .before .before .before .before .before .before .before .before .args .run .now) (c .before .before .before .before .before .loop .from) (c .before .before .first-len .result) (c .before .before .before .before .loop-test .taken) (c .before .before .first-len .ensures) in
-    omega (arith, m .most)
+part-put-post-end c = omega (arith, measured (c .before .before) .most)
 
 put-post-requires : tie.Need-put-post-requires Inv-loop μ-loop
 put-post-requires c κs = c .before .before .before .before .before .before .loop .inv .wrote .within
 
 add-from : tie.Need-add-from Inv-loop μ-loop
-add-from c = let m = cut-at (c .before .before .before .before .before .before .before .before .before .before .before .before .before .before .before .before .args .run .now) (c .before .before .before .before .before .before .before .before .before .before .before .loop .from) (c .before .before .before .before .before .before .before .before .first-len .result) (c .before .before .before .before .before .before .before .before .before .before .loop-test .taken) (c .before .before .before .before .before .before .before .before .first-len .ensures) in
-    omega (arith, m .most)
+add-from c = omega (arith, measured (c .before .before .before .before .before .before .before .before) .most)
 
 loop-less : tie.Need-loop-less Inv-loop μ-loop
-loop-less c = let m = cut-at (c .before .before .before .before .before .before .before .before .before .before .before .before .before .before .before .before .args .run .now) (c .before .before .before .before .before .before .before .before .before .before .before .loop .from) (c .before .before .before .before .before .before .before .before .first-len .result) (c .before .before .before .before .before .before .before .before .before .before .loop-test .taken) (c .before .before .before .before .before .before .before .before .first-len .ensures) in
+loop-less c = let m = measured (c .before .before .before .before .before .before .before .before) in
     omega (arith, m .some, m .most)
 
 loop-again : tie.Need-loop-again Inv-loop μ-loop
-loop-again c = let m = cut-at (c .before .before .before .before .before .before .before .before .before .before .before .before .before .before .before .before .args .run .now) (c .before .before .before .before .before .before .before .before .before .before .before .loop .from) (c .before .before .before .before .before .before .before .before .first-len .result) (c .before .before .before .before .before .before .before .before .before .before .loop-test .taken) (c .before .before .before .before .before .before .before .before .first-len .ensures) in
-    let record-is : c .before .before .before .before .before .before .before .before .before .before .before .loop .from + c .before .before .before .before .before .before .before .before .first-len .result - c .before .before .before .before .before .before .before .before .before .before .before .loop .from ≡ firstLength (drop (c .before .before .before .before .before .before .before .before .before .before .before .loop .from) (c .before .before .before .before .before .before .before .before .before .before .before .before .before .before .before .before .args .run .now)) = omega (arith, m .first) in
-    rw (m .first) (posting-next _ _ _ _ _ (c .before .before .before .before .before .before .before .before .before .before .before .loop .inv) (c .before .before .before .before .before .before .before .before .before .before .loop-test .taken) (rw record-is at (c .before .before .before .before .put-post .ensures .0)) (rw record-is at (c .before .before .before .before .put-post .ensures .1)) (c .before .before .before .before .put-post .kept .1 .1 .1 .0))
+loop-again c =
+    let s4 = c .before .before .before .before in
+    let s3 = s4 .before .before .before .before in
+    let s2 = s3 .before .before in
+    let s1 = s2 .before in
+    let start = s1 .before .before .before .before .before in
+    let post = s4 .put-post in
+    let test = s2 .loop-test in
+    let turn = s1 .loop in
+    let m = measured s3 in
+    let record-is : turn .from + s3 .first-len .result - turn .from ≡ firstLength (drop (turn .from) (now (start .args .run))) = omega (arith, m .first) in
+    rw (m .first)
+    (posting-next _ _ _ _ _ (turn .inv) (test .taken) (rw record-is at (post .ensures .0)) (rw record-is at (post .ensures .1)) (post .kept .1 .1 .1 .0))
 
 same-length : tie.Need-same-length Inv-loop μ-loop
 same-length c = wrote-length (c .before .loop .inv .wrote)

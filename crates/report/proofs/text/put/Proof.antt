@@ -24,7 +24,10 @@ least-requires : tie.Need-least-requires Inv-loop μ-loop
 least-requires c κs = search needs
 
 loop-holds : tie.Need-loop-holds Inv-loop μ-loop
-loop-holds c = (paste-zero (c .before .before .before .args .out .now) (c .before .before .before .args .at) (c .before .before .before .args .text .now), omega arith, refl)
+loop-holds c =
+    let start = c .before .before .before in
+    let a = start .args in
+    (paste-zero (a .out .now) (a .at) (a .text .now), omega arith, refl)
 
 shared-slice-read-out : tie.Need-shared-slice-read-out Inv-loop μ-loop
 shared-slice-read-out c = omega (arith, c .before .before .before .least .ensures, c .before .loop-test .taken)
@@ -33,7 +36,11 @@ add-out : tie.Need-add-out Inv-loop μ-loop
 add-out c = search needs
 
 slice-write-out : tie.Need-slice-write-out Inv-loop μ-loop
-slice-write-out c = omega (arith, c .before .before .before .least .ensures, c .before .loop-test .taken, c .before .before .loop .inv .2, c .before .before .before .before .before .before .pre)
+slice-write-out c =
+    let s2 = c .before .before in
+    let s1 = s2 .before in
+    let start = s1 .before .before .before in
+    omega (arith, s1 .least .ensures, c .before .loop-test .taken, s2 .loop .inv .2, start .pre)
 
 add-i : tie.Need-add-i Inv-loop μ-loop
 add-i c = search needs
@@ -42,11 +49,15 @@ loop-less : tie.Need-loop-less Inv-loop μ-loop
 loop-less c = omega (arith, c .before .loop-test .taken)
 
 loop-again : tie.Need-loop-again Inv-loop μ-loop
-loop-again c = (
-  rw (c .before .before .loop .inv .0, add-one) (paste-suc (c .before .before .before .before .before .before .args .out .now) (c .before .before .before .before .before .before .args .at) (c .before .before .before .before .before .before .args .text .now) (c .before .before .loop .i) 0 (omega (arith, c .before .before .before .least .ensures, c .before .loop-test .taken, c .before .before .before .before .before .before .pre)) (omega (arith, c .before .before .before .least .ensures, c .before .loop-test .taken))),
-  omega (arith, c .before .loop-test .taken),
-  rw length-set (c .before .before .loop .inv .2),
-)
+loop-again c =
+    let s2 = c .before .before in
+    let s1 = s2 .before in
+    let start = s1 .before .before .before in
+    let a = start .args in (
+      rw (s2 .loop .inv .0, add-one) (paste-suc (a .out .now) (a .at) (a .text .now) (s2 .loop .i) 0 (omega (arith, s1 .least .ensures, c .before .loop-test .taken, start .pre)) (omega (arith, s1 .least .ensures, c .before .loop-test .taken))),
+      omega (arith, c .before .loop-test .taken),
+      rw length-set (s2 .loop .inv .2),
+    )
 
 add-result : tie.Need-add-result Inv-loop μ-loop
 add-result c = search needs

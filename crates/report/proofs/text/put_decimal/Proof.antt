@@ -23,8 +23,12 @@ same-length : tie.Need-same-length
 same-length c = search needs
 
 returns : tie.Need-returns
-returns c = let texts = c .before .before .before .before .before .decimal .ensures .1 .1 ∙ fewest-decimal (c .before .before .before .before .before .before .before .before .args .n) (c .before .before .before .before .before .decimal .result) (omega (arith, c .before .before .before .before .before .before .before .before .fits)) (c .before .before .before .before .before .decimal .ensures .1 .0) in
-    rw (← texts) (c .before .before .put .ensures)
+returns c =
+    let s2 = c .before .before in
+    let s1 = s2 .before .before .before in
+    let start = s1 .before .before .before in
+    let texts = s1 .decimal .ensures .1 .1 ∙ fewest-decimal (start .args .n) (s1 .decimal .result) (omega (arith, start .fits)) (s1 .decimal .ensures .1 .0) in
+    rw (← texts) (s2 .put .ensures)
 
 pub put-decimal-spec : {M : Type 1} → statement M
 put-decimal-spec =
