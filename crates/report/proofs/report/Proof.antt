@@ -10,38 +10,14 @@ use Rattle.report.proofs.Cuts.{schedule-first, schedule-most, activity-
 use Rattle.report.proofs.report.Statement.{statement}
 use Rattle.report.proofs.report.Tie as tie
 
-slice-aggregate-put : tie.Need-slice-aggregate-put
-slice-aggregate-put c = search needs
-
-put-requires : tie.Need-put-requires
-put-requires c κs = search needs
-
-same-length : tie.Need-same-length
-same-length c = search needs
-
 returns : tie.Need-returns
 unfolding report
 returns c = rw (lt-ltb _ _ (c .before .before .before .before .before .if1 .taken)) (c .before .before .put .ensures)
-
-schedule-end-requires : tie.Need-schedule-end-requires
-schedule-end-requires c κs = search needs
 
 slice-aggregate-check-book : tie.Need-slice-aggregate-check-book
 slice-aggregate-check-book c =
     let start = c .before .before .before .before .before in
     rw (schedule-first (start .args .input .now) (c .before .schedule-end .ensures)) (c .before .schedule-end .ensures)
-
-check-book-requires : tie.Need-check-book-requires
-check-book-requires c κs = search needs
-
-enum-known-number : tie.Need-enum-known-number
-enum-known-number c = search needs
-
-put-refused-at-requires : tie.Need-put-refused-at-requires
-put-refused-at-requires c κs = search needs
-
-enum-known-l : tie.Need-enum-known-l
-enum-known-l c = search needs
 
 slice-aggregate-put-month : tie.Need-slice-aggregate-put-month
 slice-aggregate-put-month c =
@@ -61,15 +37,6 @@ part-put-month-start c =
     let start = s1 .before .before .before .before in
     schedule-most (start .args .input .now) (s1 .schedule-end .ensures)
 
-part-put-month-end : tie.Need-part-put-month-end
-part-put-month-end c = search needs
-
-put-month-requires : tie.Need-put-month-requires
-put-month-requires c κs = search needs
-
-same-length-2 : tie.Need-same-length-2
-same-length-2 c = search needs
-
 returns-2 : tie.Need-returns-2
 unfolding report
 returns-2 c =
@@ -82,9 +49,6 @@ returns-2 c =
     let first = schedule-first (start .args .input .now) (s2 .schedule-end .ensures) in
     let e = rw first at (sym (s3 .check-book .ensures) ∙ ap meaning (s4 .number .given .1)) in
     rw (le-ltb _ _ (s1 .if1 .left), e) (s5 .put-refused-at .ensures)
-
-same-length-3 : tie.Need-same-length-3
-same-length-3 c = search needs
 
 returns-3 : tie.Need-returns-3
 unfolding report
@@ -104,22 +68,22 @@ pub report-spec : {M : Type 1} → statement M
 report-spec =
     tie.close
     (tie.spec
-    slice-aggregate-put
-    put-requires
-    same-length
+    (λ c. search needs)
+    (λ c κs. search needs)
+    (λ c. search needs)
     returns
-    schedule-end-requires
+    (λ c κs. search needs)
     slice-aggregate-check-book
-    check-book-requires
-    enum-known-number
-    put-refused-at-requires
-    enum-known-l
+    (λ c κs. search needs)
+    (λ c. search needs)
+    (λ c κs. search needs)
+    (λ c. search needs)
     slice-aggregate-put-month
     sub-put-month
     part-put-month-start
-    part-put-month-end
-    put-month-requires
-    same-length-2
+    (λ c. search needs)
+    (λ c κs. search needs)
+    (λ c. search needs)
     returns-2
-    same-length-3
+    (λ c. search needs)
     returns-3)

@@ -6,12 +6,6 @@ use Rattle.wire.proofs.Cut.{first-under, first-past, first-field}
 use Rattle.wire.proofs.first_len.Statement.{statement}
 use Rattle.wire.proofs.first_len.Tie as tie
 
-u16-at-requires : tie.Need-u16-at-requires
-u16-at-requires c κs = search needs
-
-cast-len : tie.Need-cast-len
-cast-len c = search needs
-
 returns : tie.Need-returns
 returns c = sym (first-under _ (rw (← c .before .u16-at .ensures) (c .if1 .taken)))
 
@@ -24,4 +18,4 @@ returns-3 c =
     ∙ sym (first-field _ (rw (← c .before .before .u16-at .ensures) (c .before .if1 .left)) (rw (← c .before .before .u16-at .ensures) (c .if2 .left)))
 
 pub first-len-spec : {M : Type 1} → statement M
-first-len-spec = tie.close (tie.spec u16-at-requires cast-len returns returns-2 returns-3)
+first-len-spec = tie.close (tie.spec (λ c κs. search needs) (λ c. search needs) returns returns-2 returns-3)

@@ -10,27 +10,6 @@ use Rattle.wire.proofs.u16_at.Tie as tie
 returns : tie.Need-returns
 returns c = sym (u16-past _ _ (c .if1 .taken))
 
-byte-at-requires : tie.Need-byte-at-requires
-byte-at-requires c κs = search needs
-
-cast-result : tie.Need-cast-result
-cast-result c = search needs
-
-add-byte-at : tie.Need-add-byte-at
-add-byte-at c = search needs
-
-byte-at-requires-2 : tie.Need-byte-at-requires-2
-byte-at-requires-2 c κs = search needs
-
-cast-result-2 : tie.Need-cast-result-2
-cast-result-2 c = search needs
-
-mul-result : tie.Need-mul-result
-mul-result c = search needs
-
-add-result : tie.Need-add-result
-add-result c = search needs
-
 returns-2 : tie.Need-returns-2
 unfolding u16At
 returns-2 c = search needs
@@ -40,11 +19,11 @@ u16-at-spec =
     tie.close
     (tie.spec
     returns
-    byte-at-requires
-    cast-result
-    add-byte-at
-    byte-at-requires-2
-    cast-result-2
-    mul-result
-    add-result
+    (λ c κs. search needs)
+    (λ c. search needs)
+    (λ c. search needs)
+    (λ c κs. search needs)
+    (λ c. search needs)
+    (λ c. search needs)
+    (λ c. search needs)
     returns-2)

@@ -7,15 +7,6 @@ use borrow.Author.Needs.{needs}
 use Rattle.book.proofs.cells.book_size.Statement.{statement}
 use Rattle.book.proofs.cells.book_size.Tie as tie
 
-cast-result : tie.Need-cast-result
-cast-result c = search needs
-
-mul-result : tie.Need-mul-result
-mul-result c = search needs
-
-cast-result-2 : tie.Need-cast-result-2
-cast-result-2 c = search needs
-
 mul-result-2 : tie.Need-mul-result-2
 mul-result-2 c =
     let a = c .before .before .args in
@@ -23,8 +14,5 @@ mul-result-2 c =
     let f : a .l .firms ≤ 255 = search needs in
     omega (arith, mul-le-mul g f)
 
-returns : tie.Need-returns
-returns c = search needs
-
 pub book-size-spec : {M : Type 1} → statement M
-book-size-spec = tie.close (tie.spec cast-result mul-result cast-result-2 mul-result-2 returns)
+book-size-spec = tie.close (tie.spec (λ c. search needs) (λ c. search needs) (λ c. search needs) mul-result-2 (λ c. search needs))

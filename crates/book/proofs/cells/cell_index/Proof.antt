@@ -25,15 +25,9 @@ mul-result c = omega (arith, row-most c)
 add-result : tie.Need-add-result
 add-result c = omega (arith, row-most c)
 
-sub-result : tie.Need-sub-result
-sub-result c = search needs
-
 mul-result-2 : tie.Need-mul-result-2
 mul-result-2 c = omega (arith, row-most c)
 
-returns : tie.Need-returns
-returns c = search needs
-
 pub cell-index-spec : {M : Type 1} → statement M
 cell-index-spec =
-    tie.close (tie.spec mul-row add-row mul-result add-result sub-result mul-result-2 returns)
+    tie.close (tie.spec mul-row add-row mul-result add-result (λ c. search needs) mul-result-2 (λ c. search needs))

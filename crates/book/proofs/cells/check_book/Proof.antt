@@ -8,18 +8,6 @@ use Rattle.book.specs.Book.{checkBook}
 use Rattle.book.proofs.cells.check_book.Statement.{statement}
 use Rattle.book.proofs.cells.check_book.Tie as tie
 
-check-requires : tie.Need-check-requires
-check-requires c κs = search needs
-
-enum-known-number : tie.Need-enum-known-number
-enum-known-number c = search needs
-
-enum-known-l : tie.Need-enum-known-l
-enum-known-l c = search needs
-
-book-size-requires : tie.Need-book-size-requires
-book-size-requires c κs = search needs
-
 returns : tie.Need-returns
 unfolding checkBook
 returns c =
@@ -40,10 +28,10 @@ pub check-book-spec : {M : Type 1} → statement M
 check-book-spec =
     tie.close
     (tie.spec
-    check-requires
-    enum-known-number
-    enum-known-l
-    book-size-requires
+    (λ c κs. search needs)
+    (λ c. search needs)
+    (λ c. search needs)
+    (λ c κs. search needs)
     returns
     returns-2
     returns-3)

@@ -19,9 +19,6 @@ use Rattle.book.proofs.filing.file.Tie as tie
 form-passed : (c : tie.Else1) → Passed (formCauses (now (c .before .before .before .before .args .«record»)))
 form-passed c = passed _ refl (sym (c .before .form-cause .ensures) ∙ c .if1 .left)
 
-form-cause-requires : tie.Need-form-cause-requires
-form-cause-requires c κs = search needs
-
 returns : tie.Need-returns
 returns c = record { first = choose-first _ _ (sym (c .before .form-cause .ensures)) (c .if1 .taken); some = omega (arith, c .if1 .taken) }
 
@@ -39,4 +36,4 @@ returns-2 c =
     filed-same S (a .l) R (listCauses S (a .l) R) (recordCauses S (a .l) R) (sym same) (c .file-listed .result) (c .file-listed .ensures)
 
 pub file-spec : {M : Type 1} → statement M
-file-spec = tie.close (tie.spec form-cause-requires returns file-listed-requires returns-2)
+file-spec = tie.close (tie.spec (λ c κs. search needs) returns file-listed-requires returns-2)

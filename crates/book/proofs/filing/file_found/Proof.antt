@@ -45,36 +45,12 @@ module _ (c : tie.After-contract-status) (k : Status) (e : c .contract-status .r
   taken : isListed (statusMeaning k) ≡ true → contractCounted body month ≡ isCounted (statusMeaning k)
   taken h = sym (status-counted body month (listed ∙ h)) ∙ ap isCounted (sym (status c)) ∙ ap (λ s. isCounted (statusMeaning s)) e
 
-byte-at-requires : tie.Need-byte-at-requires
-byte-at-requires c κs = search needs
-
-days-in-requires : tie.Need-days-in-requires
-days-in-requires c κs = search needs
-
 returns : tie.Need-returns
 returns c =
     record {
       first = chosen (here (rw (c .before .before .byte-at .ensures, c .before .days-in .ensures) at (c .if1 .taken)));
       some = omega arith;
     }
-
-u16-at-requires : tie.Need-u16-at-requires
-u16-at-requires c κs = search needs
-
-contract-status-requires : tie.Need-contract-status-requires
-contract-status-requires c κs = search needs
-
-enum-told : tie.Need-enum-told
-enum-told c = search needs
-
-enum-told-2 : tie.Need-enum-told-2
-enum-told-2 c = search needs
-
-enum-told-3 : tie.Need-enum-told-3
-enum-told-3 c = search needs
-
-in-effect-requires : tie.Need-in-effect-requires
-in-effect-requires c κs = search needs
 
 returns-2 : tie.Need-returns-2
 returns-2 c =
@@ -124,15 +100,15 @@ pub file-found-spec : {M : Type 1} → statement M
 file-found-spec =
     tie.close
     (tie.spec
-    byte-at-requires
-    days-in-requires
+    (λ c κs. search needs)
+    (λ c κs. search needs)
     returns
-    u16-at-requires
-    contract-status-requires
-    enum-told
-    enum-told-2
-    enum-told-3
-    in-effect-requires
+    (λ c κs. search needs)
+    (λ c κs. search needs)
+    (λ c. search needs)
+    (λ c. search needs)
+    (λ c. search needs)
+    (λ c κs. search needs)
     returns-2
     cell-index-requires
     returns-3

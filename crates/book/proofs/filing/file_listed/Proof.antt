@@ -23,39 +23,6 @@ firm c = firm-found _ _ _ _ (sym (ap firmMeaning (c .before .firm .given .1)) �
 group-told : (c : tie.After-known-told2) → let a = c .before .before .before .before .before .before .before .before .before .before .before .before .before .args in groupMeaning (c .before .before .before .find-group .result) ≡ groupFound (now (a .schedule)) (a .l .groups) (groupFirst (now (a .«record»))) (groupSecond (now (a .«record»)))
 group-told c = rw (c .before .before .before .before .before .byte-at .ensures, c .before .before .before .before .byte-at2 .ensures) at (c .before .before .before .find-group .ensures)
 
-sub-find-firm : tie.Need-sub-find-firm
-sub-find-firm c = search needs
-
-part-find-firm-start : tie.Need-part-find-firm-start
-part-find-firm-start c = search needs
-
-part-find-firm-end : tie.Need-part-find-firm-end
-part-find-firm-end c = search needs
-
-find-firm-requires : tie.Need-find-firm-requires
-find-firm-requires c κs = search needs
-
-enum-told : tie.Need-enum-told
-enum-told c = search needs
-
-enum-known-firm : tie.Need-enum-known-firm
-enum-known-firm c = search needs
-
-byte-at-requires : tie.Need-byte-at-requires
-byte-at-requires c κs = search needs
-
-byte-at-requires-2 : tie.Need-byte-at-requires-2
-byte-at-requires-2 c κs = search needs
-
-find-group-requires : tie.Need-find-group-requires
-find-group-requires c κs = search needs
-
-enum-told-2 : tie.Need-enum-told-2
-enum-told-2 c = search needs
-
-enum-known-index : tie.Need-enum-known-index
-enum-known-index c = search needs
-
 file-found-requires : tie.Need-file-found-requires
 file-found-requires c κs =
     let f = firm (c .before .before .before .before .before .before) in
@@ -97,17 +64,17 @@ pub file-listed-spec : {M : Type 1} → statement M
 file-listed-spec =
     tie.close
     (tie.spec
-    sub-find-firm
-    part-find-firm-start
-    part-find-firm-end
-    find-firm-requires
-    enum-told
-    enum-known-firm
-    byte-at-requires
-    byte-at-requires-2
-    find-group-requires
-    enum-told-2
-    enum-known-index
+    (λ c. search needs)
+    (λ c. search needs)
+    (λ c. search needs)
+    (λ c κs. search needs)
+    (λ c. search needs)
+    (λ c. search needs)
+    (λ c κs. search needs)
+    (λ c κs. search needs)
+    (λ c κs. search needs)
+    (λ c. search needs)
+    (λ c. search needs)
     file-found-requires
     returns
     returns-2

@@ -11,14 +11,8 @@ use Rattle.book.proofs.filing.form_cause.Tie as tie
 returns : tie.Need-returns
 returns c = sym (chosen (here (lt-ltb _ _ (c .if1 .taken))))
 
-u16-at-requires : tie.Need-u16-at-requires
-u16-at-requires c κs = search needs
-
 returns-2 : tie.Need-returns-2
 returns-2 c = sym (chosen (next (le-ltb _ _ (c .before .before .if1 .left)) (here (ap not (rw (c .before .u16-at .ensures) at (ne-eqb _ _ (c .if2 .taken)))))))
-
-u16-at-requires-2 : tie.Need-u16-at-requires-2
-u16-at-requires-2 c κs = search needs
 
 returns-3 : tie.Need-returns-3
 returns-3 c = sym (chosen (next (le-ltb _ _ (c .before .before .before .before .if1 .left)) (next (ap not (rw (c .before .before .before .u16-at .ensures) at (eq-eqb _ _ (c .before .before .if2 .left)))) (next (ap not (rw (c .before .u16-at2 .ensures) at (c .if3 .taken))) done))))
@@ -28,4 +22,4 @@ returns-4 c = sym (chosen (next (le-ltb _ _ (c .before .before .before .before .
 
 pub form-cause-spec : {M : Type 1} → statement M
 form-cause-spec =
-    tie.close (tie.spec returns u16-at-requires returns-2 u16-at-requires-2 returns-3 returns-4)
+    tie.close (tie.spec returns (λ c κs. search needs) returns-2 (λ c κs. search needs) returns-3 returns-4)

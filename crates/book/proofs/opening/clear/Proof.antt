@@ -19,17 +19,8 @@ abbrev μ-loop : tie.MeasureT-loop
 loop-holds : tie.Need-loop-holds Inv-loop μ-loop
 loop-holds c = rw joined-none (omega arith, refl)
 
-mul-book : tie.Need-mul-book Inv-loop μ-loop
-mul-book c = search needs
-
 slice-write-book : tie.Need-slice-write-book Inv-loop μ-loop
 slice-write-book c = rw (c .before .loop .inv .1) (simp (length-append, length-drop, length-table) (omega arith))
-
-add-i : tie.Need-add-i Inv-loop μ-loop
-add-i c = search needs
-
-loop-less : tie.Need-loop-less Inv-loop μ-loop
-loop-less c = search needs
 
 loop-again : tie.Need-loop-again Inv-loop μ-loop
 loop-again c =
@@ -51,10 +42,10 @@ clear-spec =
     Inv-loop
     μ-loop
     loop-holds
-    mul-book
+    (λ c. search needs)
     slice-write-book
-    add-i
-    loop-less
+    (λ c. search needs)
+    (λ c. search needs)
     loop-again
     same-length
     returns)

@@ -8,15 +8,6 @@ use Rattle.book.specs.Post.{plus}
 use Rattle.book.proofs.posting.add.Statement.{statement}
 use Rattle.book.proofs.posting.add.Tie as tie
 
-cell-at-requires : tie.Need-cell-at-requires
-cell-at-requires c κs = search needs
-
-can-add-requires : tie.Need-can-add-requires
-can-add-requires c κs = search needs
-
-same-length : tie.Need-same-length
-same-length c = search needs
-
 returns : tie.Need-returns
 returns c =
     let e = rw (c .before .before .cell-at .ensures) at (no (c .before .can-add .ensures) (c .if1 .taken)) in
@@ -36,12 +27,6 @@ add-t11 c = omega (arith, fits-in (c .before .before .before .before) .score)
 add-t12 : tie.Need-add-t12
 add-t12 c = omega (arith, fits-in (c .before .before .before .before .before .before) .lots)
 
-store-cell-requires : tie.Need-store-cell-requires
-store-cell-requires c κs = search needs
-
-same-length-2 : tie.Need-same-length-2
-same-length-2 c = search needs
-
 returns-2 : tie.Need-returns-2
 returns-2 c =
     let p = c .before .before .before .before .before .before .before .before .before .before in
@@ -53,13 +38,13 @@ pub add-spec : {M : Type 1} → statement M
 add-spec =
     tie.close
     (tie.spec
-    cell-at-requires
-    can-add-requires
-    same-length
+    (λ c κs. search needs)
+    (λ c κs. search needs)
+    (λ c. search needs)
     returns
     add-t10
     add-t11
     add-t12
-    store-cell-requires
-    same-length-2
+    (λ c κs. search needs)
+    (λ c. search needs)
     returns-2)

@@ -11,21 +11,6 @@ use Rattle.book.proofs.Answers.{stopped, passed-over, added}
 use Rattle.book.proofs.posting.post_checked.Statement.{statement}
 use Rattle.book.proofs.posting.post_checked.Tie as tie
 
-file-requires : tie.Need-file-requires
-file-requires c κs = search needs
-
-enum-known-number : tie.Need-enum-known-number
-enum-known-number c = search needs
-
-enum-told : tie.Need-enum-told
-enum-told c = search needs
-
-enum-known-at : tie.Need-enum-known-at
-enum-known-at c = search needs
-
-totals-of-requires : tie.Need-totals-of-requires
-totals-of-requires c κs = search needs
-
 add-requires : tie.Need-add-requires
 add-requires c κs =
     let s = c .before .before .before .before .before .before .before .before .before in
@@ -40,9 +25,6 @@ returns c = stopped _ _ _ (c .before .before .before .before .before .before .be
 returns-2 : tie.Need-returns-2
 returns-2 c = passed-over _ _ _ (c .before .before .before .before .before .before .pre) (rw (c .enum-told .given .1) at (c .before .before .file .ensures))
 
-same-length : tie.Need-same-length
-same-length c = search needs
-
 returns-3 : tie.Need-returns-3
 returns-3 c =
     let t = rw (c .before .before .before .before .before .before .at .given .1) at (c .before .before .before .before .before .before .before .before .file .ensures) in
@@ -52,13 +34,13 @@ pub post-checked-spec : {M : Type 1} → statement M
 post-checked-spec =
     tie.close
     (tie.spec
-    file-requires
-    enum-known-number
-    enum-told
-    enum-known-at
-    totals-of-requires
+    (λ c κs. search needs)
+    (λ c. search needs)
+    (λ c. search needs)
+    (λ c. search needs)
+    (λ c κs. search needs)
     add-requires
     returns
     returns-2
-    same-length
+    (λ c. search needs)
     returns-3)

@@ -7,11 +7,8 @@ use borrow.Author.Needs.{needs}
 use Rattle.cases.proofs.commands.held.Statement.{statement}
 use Rattle.cases.proofs.commands.held.Tie as tie
 
-clamp-requires : tie.Need-clamp-requires
-clamp-requires c κs = search needs
-
 returns : tie.Need-returns
 returns c = (omega arith, sym (length-take-le _ _ (omega arith)))
 
 pub held-spec : {M : Type 1} → statement M
-held-spec = tie.close (tie.spec clamp-requires returns)
+held-spec = tie.close (tie.spec (λ c κs. search needs) returns)

@@ -21,21 +21,6 @@ abbrev μ-loop : tie.MeasureT-loop
 loop-holds : tie.Need-loop-holds Inv-loop μ-loop
 loop-holds c = (omega arith, refl)
 
-mul-with-number : tie.Need-mul-with-number Inv-loop μ-loop
-mul-with-number c = search needs
-
-shared-slice-read-with-number : tie.Need-shared-slice-read-with-number Inv-loop μ-loop
-shared-slice-read-with-number c = search needs
-
-with-number-requires : tie.Need-with-number-requires Inv-loop μ-loop
-with-number-requires c κs = search needs
-
-add-i : tie.Need-add-i Inv-loop μ-loop
-add-i c = search needs
-
-loop-less : tie.Need-loop-less Inv-loop μ-loop
-loop-less c = search needs
-
 loop-again : tie.Need-loop-again Inv-loop μ-loop
 unfolding digestOf
 loop-again c =
@@ -57,10 +42,10 @@ digest-of-spec =
     Inv-loop
     μ-loop
     loop-holds
-    mul-with-number
-    shared-slice-read-with-number
-    with-number-requires
-    add-i
-    loop-less
+    (λ c. search needs)
+    (λ c. search needs)
+    (λ c κs. search needs)
+    (λ c. search needs)
+    (λ c. search needs)
     loop-again
     returns)

@@ -15,24 +15,9 @@ by-parts m d n =
     simp (add-mul, mul-assoc) (omega (arith, div-add-mod' (8 * d) m, div-add-mod' (7 * d) m, div-add-mod' n m)) in
     rw e (sym (add-mul-mod-self-right _ _ m))
 
-mul-eight : tie.Need-mul-eight
-mul-eight c = search needs
-
-mul-result : tie.Need-mul-result
-mul-result c = search needs
-
-mul-result-2 : tie.Need-mul-result-2
-mul-result-2 c = search needs
-
-add-result : tie.Need-add-result
-add-result c = search needs
-
-add-result-2 : tie.Need-add-result-2
-add-result-2 c = search needs
-
 returns : tie.Need-returns
 returns c = by-parts modulus (c .args .digest) (c .args .n)
 
 pub with-number-spec : {M : Type 1} → statement M
 with-number-spec =
-    tie.close (tie.spec mul-eight mul-result mul-result-2 add-result add-result-2 returns)
+    tie.close (tie.spec (λ c. search needs) (λ c. search needs) (λ c. search needs) (λ c. search needs) (λ c. search needs) returns)

@@ -6,18 +6,9 @@ use Rattle.cases.specs.Hex.{hexAt}
 use Rattle.cases.proofs.hex.hex_at.Statement.{statement}
 use Rattle.cases.proofs.hex.hex_at.Tie as tie
 
-byte-at-requires : tie.Need-byte-at-requires
-byte-at-requires c κs = search needs
-
-hex-digit-requires : tie.Need-hex-digit-requires
-hex-digit-requires c κs = search needs
-
 returns : tie.Need-returns
 unfolding hexAt
 returns c = rw (eq-eqb _ _ (c .before .if1 .taken), ← c .before .before .byte-at .ensures) (c .hex-digit .ensures)
-
-hex-digit-requires-2 : tie.Need-hex-digit-requires-2
-hex-digit-requires-2 c κs = search needs
 
 returns-2 : tie.Need-returns-2
 unfolding hexAt
@@ -25,4 +16,4 @@ returns-2 c = rw (ne-eqb _ _ (c .before .if1 .left), ← c .before .before .byte
 
 pub hex-at-spec : {M : Type 1} → statement M
 hex-at-spec =
-    tie.close (tie.spec byte-at-requires hex-digit-requires returns hex-digit-requires-2 returns-2)
+    tie.close (tie.spec (λ c κs. search needs) (λ c κs. search needs) returns (λ c κs. search needs) returns-2)

@@ -5,15 +5,6 @@ use borrow.Author.Tests.{lt-ltb, le-ltb}
 use Rattle.cases.proofs.hex.hex_digit.Statement.{statement}
 use Rattle.cases.proofs.hex.hex_digit.Tie as tie
 
-add-result : tie.Need-add-result
-add-result c = search needs
-
-sub-result : tie.Need-sub-result
-sub-result c = search needs
-
-add-result-2 : tie.Need-add-result-2
-add-result-2 c = search needs
-
 returns : tie.Need-returns
 returns c = rw (lt-ltb _ _ (c .if1 .taken))
 
@@ -21,4 +12,4 @@ returns-2 : tie.Need-returns-2
 returns-2 c = rw (le-ltb _ _ (c .if1 .left))
 
 pub hex-digit-spec : {M : Type 1} → statement M
-hex-digit-spec = tie.close (tie.spec add-result sub-result add-result-2 returns returns-2)
+hex-digit-spec = tie.close (tie.spec (λ c. search needs) (λ c. search needs) (λ c. search needs) returns returns-2)

@@ -21,21 +21,6 @@ abbrev μ-loop : tie.MeasureT-loop
 loop-holds : tie.Need-loop-holds Inv-loop μ-loop
 loop-holds c = rw joined-none (omega arith, refl, refl)
 
-mul-loop : tie.Need-mul-loop Inv-loop μ-loop
-mul-loop c = search needs
-
-hex-at-requires : tie.Need-hex-at-requires Inv-loop μ-loop
-hex-at-requires c κs = search needs
-
-slice-write-text : tie.Need-slice-write-text Inv-loop μ-loop
-slice-write-text c = search needs
-
-add-i : tie.Need-add-i Inv-loop μ-loop
-add-i c = search needs
-
-loop-less : tie.Need-loop-less Inv-loop μ-loop
-loop-less c = search needs
-
 loop-again : tie.Need-loop-again Inv-loop μ-loop
 loop-again c =
     let l = c .before .before .loop in
@@ -44,9 +29,6 @@ loop-again c =
       simp length-set (omega arith),
       rw (l .inv .2) (table-write (hexAt (a .bytes .now)) (l .i) _ (a .text .now) (omega arith) (c .hex-at .ensures)),
     )
-
-same-length : tie.Need-same-length Inv-loop μ-loop
-same-length c = search needs
 
 returns : tie.Need-returns Inv-loop μ-loop
 returns c =
@@ -62,11 +44,11 @@ put-hex-spec =
     Inv-loop
     μ-loop
     loop-holds
-    mul-loop
-    hex-at-requires
-    slice-write-text
-    add-i
-    loop-less
+    (λ c. search needs)
+    (λ c κs. search needs)
+    (λ c. search needs)
+    (λ c. search needs)
+    (λ c. search needs)
     loop-again
-    same-length
+    (λ c. search needs)
     returns)

@@ -28,21 +28,6 @@ module _ (xs : List ℕ) (a b s e : ℕ) (last : e ≡ min b (length xs)) (first
       ∙ take-all (e - a) (take (b - a) (drop a xs)) (simp (length-take, length-drop) (rw last (within a b (length xs))))))
       (eq-zero-or-pos (e - s))
 
-clamp-requires : tie.Need-clamp-requires
-clamp-requires c κs = search needs
-
-clamp-requires-2 : tie.Need-clamp-requires-2
-clamp-requires-2 c κs = search needs
-
-sub-result : tie.Need-sub-result
-sub-result c = search needs
-
-part-result-start : tie.Need-part-result-start
-part-result-start c = search needs
-
-part-result-end : tie.Need-part-result-end
-part-result-end c = search needs
-
 returns : tie.Need-returns
 returns c =
     let a = c .before .before .before .before .args in
@@ -51,4 +36,4 @@ returns c =
 pub bytes-of-spec : {M : Type 1} → statement M
 bytes-of-spec =
     tie.close
-    (tie.spec clamp-requires clamp-requires-2 sub-result part-result-start part-result-end returns)
+    (tie.spec (λ c κs. search needs) (λ c κs. search needs) (λ c. search needs) (λ c. search needs) (λ c. search needs) returns)

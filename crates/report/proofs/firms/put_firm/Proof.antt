@@ -9,36 +9,6 @@ use Rattle.report.proofs.FirmLines.{lines-refused, lines-written}
 use Rattle.report.proofs.firms.put_firm.Statement.{statement}
 use Rattle.report.proofs.firms.put_firm.Tie as tie
 
-code-of-requires : tie.Need-code-of-requires
-code-of-requires c κs = search needs
-
-blank-output-requires : tie.Need-blank-output-requires
-blank-output-requires c κs = search needs
-
-slice-aggregate-statement : tie.Need-slice-aggregate-statement
-slice-aggregate-statement c = search needs
-
-slice-aggregate-statement-2 : tie.Need-slice-aggregate-statement-2
-slice-aggregate-statement-2 c = search needs
-
-statement-requires : tie.Need-statement-requires
-statement-requires c κs = search needs
-
-enum-known-number : tie.Need-enum-known-number
-enum-known-number c = search needs
-
-put-refused-requires : tie.Need-put-refused-requires
-put-refused-requires c κs = search needs
-
-enum-known-bytes : tie.Need-enum-known-bytes
-enum-known-bytes c = search needs
-
-slice-aggregate-put-statement : tie.Need-slice-aggregate-put-statement
-slice-aggregate-put-statement c = search needs
-
-slice-aggregate-put-statement-2 : tie.Need-slice-aggregate-put-statement-2
-slice-aggregate-put-statement-2 c = search needs
-
 put-statement-requires : tie.Need-put-statement-requires
 put-statement-requires c κs =
     let s4 = c .before .before .before .before in
@@ -52,9 +22,6 @@ put-statement-requires c κs =
     let bounds = written-bounds (a .schedule .now) (a .book .now) (s1 .code-of .result) (s2 .blank-output .result) e in
     (search needs, (bounds .0, omega (arith, bounds .1, s .kept .1 .1 .1 .0)))
 
-same-length : tie.Need-same-length
-same-length c = search needs
-
 returns : tie.Need-returns
 returns c =
     let s5 = c .before .before in
@@ -67,9 +34,6 @@ returns c =
     let e = sym (s3 .statement .ensures .answer) ∙ ap statedMeaning (s4 .number .given .1) in
     let lines = lines-refused (a .schedule .now) (a .l) (a .book .now) (a .f) (s1 .code-of .ensures) (s2 .blank-output .ensures) e in
     rw (← lines) (s5 .put-refused .ensures)
-
-same-length-2 : tie.Need-same-length-2
-same-length-2 c = search needs
 
 returns-2 : tie.Need-returns-2
 returns-2 c =
@@ -89,18 +53,18 @@ pub put-firm-spec : {M : Type 1} → statement M
 put-firm-spec =
     tie.close
     (tie.spec
-    code-of-requires
-    blank-output-requires
-    slice-aggregate-statement
-    slice-aggregate-statement-2
-    statement-requires
-    enum-known-number
-    put-refused-requires
-    enum-known-bytes
-    slice-aggregate-put-statement
-    slice-aggregate-put-statement-2
+    (λ c κs. search needs)
+    (λ c κs. search needs)
+    (λ c. search needs)
+    (λ c. search needs)
+    (λ c κs. search needs)
+    (λ c. search needs)
+    (λ c κs. search needs)
+    (λ c. search needs)
+    (λ c. search needs)
+    (λ c. search needs)
     put-statement-requires
-    same-length
+    (λ c. search needs)
     returns
-    same-length-2
+    (λ c. search needs)
     returns-2)

@@ -17,17 +17,11 @@ Inv-loop out₀ at schedule l book firms next₀ f₀ out next f = Wrote out₀ 
 abbrev μ-loop : tie.MeasureT-loop
 μ-loop out₀ at schedule l book firms next₀ f₀ out next f = firms - f
 
-cast-firms : tie.Need-cast-firms Inv-loop μ-loop
-cast-firms c = search needs
-
 loop-holds : tie.Need-loop-holds Inv-loop μ-loop
 loop-holds c = (wrote-first _ _ _ (c .before .before .before .before .pre), omega arith)
 
 put-firm-requires : tie.Need-put-firm-requires Inv-loop μ-loop
 put-firm-requires c κs = (c .before .before .loop .inv .0 .within, search needs)
-
-add-f : tie.Need-add-f Inv-loop μ-loop
-add-f c = search needs
 
 loop-less : tie.Need-loop-less Inv-loop μ-loop
 loop-less c = omega (arith, c .before .before .before .before .loop-test .taken)
@@ -56,10 +50,10 @@ put-firms-spec =
     (tie.spec
     Inv-loop
     μ-loop
-    cast-firms
+    (λ c. search needs)
     loop-holds
     put-firm-requires
-    add-f
+    (λ c. search needs)
     loop-less
     loop-again
     same-length

@@ -22,23 +22,11 @@ abbrev μ-loop : tie.MeasureT-loop
 loop-holds : tie.Need-loop-holds Inv-loop μ-loop
 loop-holds c = (wrote-first _ _ _ (c .before .before .before .pre .0), omega arith)
 
-mul-put-violation : tie.Need-mul-put-violation Inv-loop μ-loop
-mul-put-violation c = search needs
-
 sub-put-violation : tie.Need-sub-put-violation Inv-loop μ-loop
 sub-put-violation c = omega (arith, c .before .before .before .before .before .before .pre .1, c .before .loop-test .taken)
 
-part-put-violation-start : tie.Need-part-put-violation-start Inv-loop μ-loop
-part-put-violation-start c = search needs
-
-part-put-violation-end : tie.Need-part-put-violation-end Inv-loop μ-loop
-part-put-violation-end c = search needs
-
 put-violation-requires : tie.Need-put-violation-requires Inv-loop μ-loop
 put-violation-requires c κs = c .before .before .before .loop .inv .0 .within
-
-add-i : tie.Need-add-i Inv-loop μ-loop
-add-i c = search needs
 
 loop-less : tie.Need-loop-less Inv-loop μ-loop
 loop-less c = omega (arith, c .before .before .before .before .before .loop-test .taken)
@@ -69,12 +57,12 @@ put-violations-spec =
     Inv-loop
     μ-loop
     loop-holds
-    mul-put-violation
+    (λ c. search needs)
     sub-put-violation
-    part-put-violation-start
-    part-put-violation-end
+    (λ c. search needs)
+    (λ c. search needs)
     put-violation-requires
-    add-i
+    (λ c. search needs)
     loop-less
     loop-again
     same-length

@@ -4,11 +4,8 @@ use borrow.Author.Needs.{needs}
 use Rattle.report.proofs.input.is_activity.Statement.{statement}
 use Rattle.report.proofs.input.is_activity.Tie as tie
 
-u16-at-requires : tie.Need-u16-at-requires
-u16-at-requires c κs = search needs
-
 returns : tie.Need-returns
 returns c = rw (c .u16-at .ensures)
 
 pub is-activity-spec : {M : Type 1} → statement M
-is-activity-spec = tie.close (tie.spec u16-at-requires returns)
+is-activity-spec = tie.close (tie.spec (λ c κs. search needs) returns)

@@ -44,32 +44,11 @@ test-first c = rw (add-sub-cancel-left, measured (c .before .before) .first) at 
 loop-holds : tie.Need-loop-holds Inv-loop μ-loop
 loop-holds c = (omega arith, omega arith)
 
-sub-first-len : tie.Need-sub-first-len Inv-loop μ-loop
-sub-first-len c = search needs
-
-part-first-len-start : tie.Need-part-first-len-start Inv-loop μ-loop
-part-first-len-start c = search needs
-
-part-first-len-end : tie.Need-part-first-len-end Inv-loop μ-loop
-part-first-len-end c = search needs
-
-first-len-requires : tie.Need-first-len-requires Inv-loop μ-loop
-first-len-requires c κs = search needs
-
 add-is-activity : tie.Need-add-is-activity Inv-loop μ-loop
 add-is-activity c = omega (arith, measured c)
 
-sub-is-activity : tie.Need-sub-is-activity Inv-loop μ-loop
-sub-is-activity c = search needs
-
-part-is-activity-start : tie.Need-part-is-activity-start Inv-loop μ-loop
-part-is-activity-start c = search needs
-
 part-is-activity-end : tie.Need-part-is-activity-end Inv-loop μ-loop
 part-is-activity-end c = omega (arith, measured c)
-
-is-activity-requires : tie.Need-is-activity-requires Inv-loop μ-loop
-is-activity-requires c κs = search needs
 
 add-at : tie.Need-add-at Inv-loop μ-loop
 add-at c = omega (arith, measured (c .before .before .before))
@@ -101,15 +80,15 @@ schedule-end-spec =
     Inv-loop
     μ-loop
     loop-holds
-    sub-first-len
-    part-first-len-start
-    part-first-len-end
-    first-len-requires
+    (λ c. search needs)
+    (λ c. search needs)
+    (λ c. search needs)
+    (λ c κs. search needs)
     add-is-activity
-    sub-is-activity
-    part-is-activity-start
+    (λ c. search needs)
+    (λ c. search needs)
     part-is-activity-end
-    is-activity-requires
+    (λ c κs. search needs)
     add-at
     loop-less
     loop-again

@@ -6,30 +6,6 @@ use Rattle.report.proofs.Writing.{wrote-then}
 use Rattle.report.proofs.lines.put_charge.Statement.{statement}
 use Rattle.report.proofs.lines.put_charge.Tie as tie
 
-slice-aggregate-put : tie.Need-slice-aggregate-put
-slice-aggregate-put c = search needs
-
-put-requires : tie.Need-put-requires
-put-requires c κs = search needs
-
-byte-at-requires : tie.Need-byte-at-requires
-byte-at-requires c κs = search needs
-
-put-mark-requires : tie.Need-put-mark-requires
-put-mark-requires c κs = search needs
-
-u32-at-requires : tie.Need-u32-at-requires
-u32-at-requires c κs = search needs
-
-cast-put-field : tie.Need-cast-put-field
-cast-put-field c = search needs
-
-put-field-requires : tie.Need-put-field-requires
-put-field-requires c κs = search needs
-
-same-length : tie.Need-same-length
-same-length c = search needs
-
 returns : tie.Need-returns
 unfolding charge
 returns c =
@@ -45,12 +21,12 @@ pub put-charge-spec : {M : Type 1} → statement M
 put-charge-spec =
     tie.close
     (tie.spec
-    slice-aggregate-put
-    put-requires
-    byte-at-requires
-    put-mark-requires
-    u32-at-requires
-    cast-put-field
-    put-field-requires
-    same-length
+    (λ c. search needs)
+    (λ c κs. search needs)
+    (λ c κs. search needs)
+    (λ c κs. search needs)
+    (λ c κs. search needs)
+    (λ c. search needs)
+    (λ c κs. search needs)
+    (λ c. search needs)
     returns)

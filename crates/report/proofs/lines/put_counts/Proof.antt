@@ -6,53 +6,14 @@ use Rattle.report.proofs.Writing.{wrote-then}
 use Rattle.report.proofs.lines.put_counts.Statement.{statement}
 use Rattle.report.proofs.lines.put_counts.Tie as tie
 
-u16-at-requires : tie.Need-u16-at-requires
-u16-at-requires c κs = search needs
-
-cast-put-field : tie.Need-cast-put-field
-cast-put-field c = search needs
-
-put-field-requires : tie.Need-put-field-requires
-put-field-requires c κs = search needs
-
-u16-at-requires-2 : tie.Need-u16-at-requires-2
-u16-at-requires-2 c κs = search needs
-
-cast-put-field-2 : tie.Need-cast-put-field-2
-cast-put-field-2 c = search needs
-
-put-field-requires-2 : tie.Need-put-field-requires-2
-put-field-requires-2 c κs = search needs
-
-u16-at-requires-3 : tie.Need-u16-at-requires-3
-u16-at-requires-3 c κs = search needs
-
-cast-put-field-3 : tie.Need-cast-put-field-3
-cast-put-field-3 c = search needs
-
 put-field-requires-3 : tie.Need-put-field-requires-3
 put-field-requires-3 c κs = c .before .before .before .before .put-field2 .ensures .within
-
-u16-at-requires-4 : tie.Need-u16-at-requires-4
-u16-at-requires-4 c κs = search needs
-
-cast-put-field-4 : tie.Need-cast-put-field-4
-cast-put-field-4 c = search needs
 
 put-field-requires-4 : tie.Need-put-field-requires-4
 put-field-requires-4 c κs = c .before .before .before .before .put-field3 .ensures .within
 
-u32-at-requires : tie.Need-u32-at-requires
-u32-at-requires c κs = search needs
-
-cast-put-field-5 : tie.Need-cast-put-field-5
-cast-put-field-5 c = search needs
-
 put-field-requires-5 : tie.Need-put-field-requires-5
 put-field-requires-5 c κs = c .before .before .before .before .put-field4 .ensures .within
-
-same-length : tie.Need-same-length
-same-length c = search needs
 
 returns : tie.Need-returns
 unfolding counts
@@ -74,20 +35,20 @@ pub put-counts-spec : {M : Type 1} → statement M
 put-counts-spec =
     tie.close
     (tie.spec
-    u16-at-requires
-    cast-put-field
-    put-field-requires
-    u16-at-requires-2
-    cast-put-field-2
-    put-field-requires-2
-    u16-at-requires-3
-    cast-put-field-3
+    (λ c κs. search needs)
+    (λ c. search needs)
+    (λ c κs. search needs)
+    (λ c κs. search needs)
+    (λ c. search needs)
+    (λ c κs. search needs)
+    (λ c κs. search needs)
+    (λ c. search needs)
     put-field-requires-3
-    u16-at-requires-4
-    cast-put-field-4
+    (λ c κs. search needs)
+    (λ c. search needs)
     put-field-requires-4
-    u32-at-requires
-    cast-put-field-5
+    (λ c κs. search needs)
+    (λ c. search needs)
     put-field-requires-5
-    same-length
+    (λ c. search needs)
     returns)

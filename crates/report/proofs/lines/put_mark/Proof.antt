@@ -7,27 +7,9 @@ use Rattle.wire.proofs.Choose.{chosen, here, next, done}
 use Rattle.report.proofs.lines.put_mark.Statement.{statement}
 use Rattle.report.proofs.lines.put_mark.Tie as tie
 
-slice-aggregate-put : tie.Need-slice-aggregate-put
-slice-aggregate-put c = search needs
-
-put-requires : tie.Need-put-requires
-put-requires c κs = search needs
-
-same-length : tie.Need-same-length
-same-length c = search needs
-
 returns : tie.Need-returns
 unfolding markWord
 returns c = rw (chosen (here (eq-eqb _ _ (c .before .before .before .before .before .if1 .taken)))) (c .before .before .put .ensures)
-
-slice-aggregate-put-2 : tie.Need-slice-aggregate-put-2
-slice-aggregate-put-2 c = search needs
-
-put-requires-2 : tie.Need-put-requires-2
-put-requires-2 c κs = search needs
-
-same-length-2 : tie.Need-same-length-2
-same-length-2 c = search needs
 
 returns-2 : tie.Need-returns-2
 unfolding markWord
@@ -37,15 +19,6 @@ returns-2 c =
     let s1 = s2 .before in
     rw (chosen (next (ne-eqb _ _ (s1 .if1 .left)) (here (eq-eqb _ _ (s2 .if2 .taken))))) (s3 .put2 .ensures)
 
-slice-aggregate-put-3 : tie.Need-slice-aggregate-put-3
-slice-aggregate-put-3 c = search needs
-
-put-requires-3 : tie.Need-put-requires-3
-put-requires-3 c κs = search needs
-
-same-length-3 : tie.Need-same-length-3
-same-length-3 c = search needs
-
 returns-3 : tie.Need-returns-3
 unfolding markWord
 returns-3 c =
@@ -54,15 +27,6 @@ returns-3 c =
     let s2 = s3 .before in
     let s1 = s2 .before in
     rw (chosen (next (ne-eqb _ _ (s1 .if1 .left)) (next (ne-eqb _ _ (s2 .if2 .left)) (here (eq-eqb _ _ (s3 .if3 .taken)))))) (s4 .put3 .ensures)
-
-slice-aggregate-put-4 : tie.Need-slice-aggregate-put-4
-slice-aggregate-put-4 c = search needs
-
-put-requires-4 : tie.Need-put-requires-4
-put-requires-4 c κs = search needs
-
-same-length-4 : tie.Need-same-length-4
-same-length-4 c = search needs
 
 returns-4 : tie.Need-returns-4
 unfolding markWord
@@ -77,19 +41,19 @@ pub put-mark-spec : {M : Type 1} → statement M
 put-mark-spec =
     tie.close
     (tie.spec
-    slice-aggregate-put
-    put-requires
-    same-length
+    (λ c. search needs)
+    (λ c κs. search needs)
+    (λ c. search needs)
     returns
-    slice-aggregate-put-2
-    put-requires-2
-    same-length-2
+    (λ c. search needs)
+    (λ c κs. search needs)
+    (λ c. search needs)
     returns-2
-    slice-aggregate-put-3
-    put-requires-3
-    same-length-3
+    (λ c. search needs)
+    (λ c κs. search needs)
+    (λ c. search needs)
     returns-3
-    slice-aggregate-put-4
-    put-requires-4
-    same-length-4
+    (λ c. search needs)
+    (λ c κs. search needs)
+    (λ c. search needs)
     returns-4)

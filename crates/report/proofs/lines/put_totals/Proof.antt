@@ -6,41 +6,11 @@ use Rattle.report.proofs.Writing.{wrote-then}
 use Rattle.report.proofs.lines.put_totals.Statement.{statement}
 use Rattle.report.proofs.lines.put_totals.Tie as tie
 
-put-requires : tie.Need-put-requires
-put-requires c κs = search needs
-
-slice-aggregate-put : tie.Need-slice-aggregate-put
-slice-aggregate-put c = search needs
-
-put-requires-2 : tie.Need-put-requires-2
-put-requires-2 c κs = search needs
-
-byte-at-requires : tie.Need-byte-at-requires
-byte-at-requires c κs = search needs
-
-cast-put-field : tie.Need-cast-put-field
-cast-put-field c = search needs
-
-put-field-requires : tie.Need-put-field-requires
-put-field-requires c κs = search needs
-
-slice-aggregate-put-2 : tie.Need-slice-aggregate-put-2
-slice-aggregate-put-2 c = search needs
-
-put-requires-3 : tie.Need-put-requires-3
-put-requires-3 c κs = search needs
-
 put-counts-requires : tie.Need-put-counts-requires
 put-counts-requires c κs = c .before .before .before .put3 .ensures .within
 
-slice-aggregate-put-3 : tie.Need-slice-aggregate-put-3
-slice-aggregate-put-3 c = search needs
-
 put-requires-4 : tie.Need-put-requires-4
 put-requires-4 c κs = c .before .before .before .before .put-counts .ensures .within
-
-same-length : tie.Need-same-length
-same-length c = search needs
 
 returns : tie.Need-returns
 unfolding totalsLine
@@ -59,16 +29,16 @@ pub put-totals-spec : {M : Type 1} → statement M
 put-totals-spec =
     tie.close
     (tie.spec
-    put-requires
-    slice-aggregate-put
-    put-requires-2
-    byte-at-requires
-    cast-put-field
-    put-field-requires
-    slice-aggregate-put-2
-    put-requires-3
+    (λ c κs. search needs)
+    (λ c. search needs)
+    (λ c κs. search needs)
+    (λ c κs. search needs)
+    (λ c. search needs)
+    (λ c κs. search needs)
+    (λ c. search needs)
+    (λ c κs. search needs)
     put-counts-requires
-    slice-aggregate-put-3
+    (λ c. search needs)
     put-requires-4
-    same-length
+    (λ c. search needs)
     returns)

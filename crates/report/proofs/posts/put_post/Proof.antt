@@ -7,27 +7,6 @@ use Rattle.report.proofs.Writing.{wrote-none}
 use Rattle.report.proofs.posts.put_post.Statement.{statement}
 use Rattle.report.proofs.posts.put_post.Tie as tie
 
-post-requires : tie.Need-post-requires
-post-requires c κs = search needs
-
-enum-known-number : tie.Need-enum-known-number
-enum-known-number c = search needs
-
-put-refused-requires : tie.Need-put-refused-requires
-put-refused-requires c κs = search needs
-
-enum-told : tie.Need-enum-told
-enum-told c = search needs
-
-enum-told-2 : tie.Need-enum-told-2
-enum-told-2 c = search needs
-
-same-length : tie.Need-same-length
-same-length c = search needs
-
-same-length-2 : tie.Need-same-length-2
-same-length-2 c = search needs
-
 returns : tie.Need-returns
 returns c =
     let s3 = c .before .before in
@@ -36,18 +15,12 @@ returns c =
     let e = sym (s1 .post .ensures .answer) ∙ ap postMeaning (s2 .number .given .1) in
     (rw e (s3 .put-refused .ensures), s1 .post .ensures .book)
 
-same-length-3 : tie.Need-same-length-3
-same-length-3 c = search needs
-
 returns-2 : tie.Need-returns-2
 returns-2 c =
     let s1 = c .before .before .before .before in
     let start = s1 .before .before .before .before .before .before in
     let e = sym (s1 .post .ensures .answer) ∙ ap postMeaning (c .enum-told .given .1) in
     (rw e (wrote-none _ _ (start .pre)), s1 .post .ensures .book)
-
-same-length-4 : tie.Need-same-length-4
-same-length-4 c = search needs
 
 returns-3 : tie.Need-returns-3
 returns-3 c =
@@ -60,15 +33,15 @@ pub put-post-spec : {M : Type 1} → statement M
 put-post-spec =
     tie.close
     (tie.spec
-    post-requires
-    enum-known-number
-    put-refused-requires
-    enum-told
-    enum-told-2
-    same-length
-    same-length-2
+    (λ c κs. search needs)
+    (λ c. search needs)
+    (λ c κs. search needs)
+    (λ c. search needs)
+    (λ c. search needs)
+    (λ c. search needs)
+    (λ c. search needs)
     returns
-    same-length-3
+    (λ c. search needs)
     returns-2
-    same-length-4
+    (λ c. search needs)
     returns-3)

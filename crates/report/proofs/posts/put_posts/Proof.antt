@@ -30,23 +30,8 @@ loop-holds c = posting-none _ _ _ _ _ (c .before .before .before .before .pre)
 sub-first-len : tie.Need-sub-first-len Inv-loop μ-loop
 sub-first-len c = c .before .loop .inv .inside
 
-part-first-len-start : tie.Need-part-first-len-start Inv-loop μ-loop
-part-first-len-start c = search needs
-
-part-first-len-end : tie.Need-part-first-len-end Inv-loop μ-loop
-part-first-len-end c = search needs
-
-first-len-requires : tie.Need-first-len-requires Inv-loop μ-loop
-first-len-requires c κs = search needs
-
 add-put-post : tie.Need-add-put-post Inv-loop μ-loop
 add-put-post c = omega (arith, measured (c .before .before) .most)
-
-sub-put-post : tie.Need-sub-put-post Inv-loop μ-loop
-sub-put-post c = search needs
-
-part-put-post-start : tie.Need-part-put-post-start Inv-loop μ-loop
-part-put-post-start c = search needs
 
 part-put-post-end : tie.Need-part-put-post-end Inv-loop μ-loop
 part-put-post-end c = omega (arith, measured (c .before .before) .most)
@@ -93,12 +78,12 @@ put-posts-spec =
     μ-loop
     loop-holds
     sub-first-len
-    part-first-len-start
-    part-first-len-end
-    first-len-requires
+    (λ c. search needs)
+    (λ c. search needs)
+    (λ c κs. search needs)
     add-put-post
-    sub-put-post
-    part-put-post-start
+    (λ c. search needs)
+    (λ c. search needs)
     part-put-post-end
     put-post-requires
     add-from

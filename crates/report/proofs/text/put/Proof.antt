@@ -17,12 +17,6 @@ Inv-loop out₀ at text n i₀ out i = (out ≡ paste out₀ at text i) × (i �
 abbrev μ-loop : tie.MeasureT-loop
 μ-loop out₀ at text n i₀ out i = n - i
 
-sub-least : tie.Need-sub-least Inv-loop μ-loop
-sub-least c = search needs
-
-least-requires : tie.Need-least-requires Inv-loop μ-loop
-least-requires c κs = search needs
-
 loop-holds : tie.Need-loop-holds Inv-loop μ-loop
 loop-holds c =
     let start = c .before .before .before in
@@ -32,18 +26,12 @@ loop-holds c =
 shared-slice-read-out : tie.Need-shared-slice-read-out Inv-loop μ-loop
 shared-slice-read-out c = omega (arith, c .before .before .before .least .ensures, c .before .loop-test .taken)
 
-add-out : tie.Need-add-out Inv-loop μ-loop
-add-out c = search needs
-
 slice-write-out : tie.Need-slice-write-out Inv-loop μ-loop
 slice-write-out c =
     let s2 = c .before .before in
     let s1 = s2 .before in
     let start = s1 .before .before .before in
     omega (arith, s1 .least .ensures, c .before .loop-test .taken, s2 .loop .inv .2, start .pre)
-
-add-i : tie.Need-add-i Inv-loop μ-loop
-add-i c = search needs
 
 loop-less : tie.Need-loop-less Inv-loop μ-loop
 loop-less c = omega (arith, c .before .loop-test .taken)
@@ -58,9 +46,6 @@ loop-again c =
       omega (arith, c .before .loop-test .taken),
       rw length-set (s2 .loop .inv .2),
     )
-
-add-result : tie.Need-add-result Inv-loop μ-loop
-add-result c = search needs
 
 same-length : tie.Need-same-length Inv-loop μ-loop
 same-length c = c .before .loop .inv .2
@@ -80,15 +65,15 @@ put-spec =
     (tie.spec
     Inv-loop
     μ-loop
-    sub-least
-    least-requires
+    (λ c. search needs)
+    (λ c κs. search needs)
     loop-holds
     shared-slice-read-out
-    add-out
+    (λ c. search needs)
     slice-write-out
-    add-i
+    (λ c. search needs)
     loop-less
     loop-again
-    add-result
+    (λ c. search needs)
     same-length
     returns)

@@ -6,18 +6,9 @@ use Rattle.schedule.specs.Calendar.{daysIn}
 use Rattle.schedule.proofs.calendar.days_in.Statement.{statement}
 use Rattle.schedule.proofs.calendar.days_in.Tie as tie
 
-is-leap-february-requires : tie.Need-is-leap-february-requires
-is-leap-february-requires c κs = search needs
-
 returns : tie.Need-returns
 unfolding daysIn
 returns c = rw (sym (c .before .is-leap-february .ensures) ∙ c .if1 .taken)
-
-cast-i : tie.Need-cast-i
-cast-i c = search needs
-
-array-read-result : tie.Need-array-read-result
-array-read-result c = search needs
 
 returns-2 : tie.Need-returns-2
 unfolding daysIn
@@ -25,4 +16,4 @@ returns-2 c = rw (sym (c .before .is-leap-february .ensures) ∙ c .if1 .left)
 
 pub days-in-spec : {M : Type 1} → statement M
 days-in-spec =
-    tie.close (tie.spec is-leap-february-requires returns cast-i array-read-result returns-2)
+    tie.close (tie.spec (λ c κs. search needs) returns (λ c. search needs) (λ c. search needs) returns-2)

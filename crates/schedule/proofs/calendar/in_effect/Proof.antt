@@ -10,14 +10,8 @@ use Rattle.schedule.proofs.calendar.in_effect.Tie as tie
 returns : tie.Need-returns
 returns c = simp (lt-leb _ _ (c .if1 .taken))
 
-days-in-requires : tie.Need-days-in-requires
-days-in-requires c κs = search needs
-
 returns-2 : tie.Need-returns-2
 returns-2 c = simp (le-leb _ _ (c .before .before .if1 .left), lt-leb _ _ (rw (c .before .days-in .ensures) at (c .if2 .taken)))
-
-cast-result : tie.Need-cast-result
-cast-result c = search needs
 
 shr-result : tie.Need-shr-result
 shr-result c = omega (arith, days-most (c .before .before .before .args .month))
@@ -27,4 +21,4 @@ returns-3 c = simp (le-leb _ _ (c .before .before .if1 .left), le-leb _ _ (rw (c
 
 pub in-effect-spec : {M : Type 1} → statement M
 in-effect-spec =
-    tie.close (tie.spec returns days-in-requires returns-2 cast-result shr-result returns-3)
+    tie.close (tie.spec returns (λ c κs. search needs) returns-2 (λ c. search needs) shr-result returns-3)

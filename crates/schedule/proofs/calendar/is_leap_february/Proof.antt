@@ -4,8 +4,5 @@ use mathlib.Core.Path.{refl}
 use Rattle.schedule.proofs.calendar.is_leap_february.Statement.{statement}
 use Rattle.schedule.proofs.calendar.is_leap_february.Tie as tie
 
-returns : tie.Need-returns
-returns c = refl
-
 pub is-leap-february-spec : {M : Type 1} → statement M
-is-leap-february-spec = tie.close (tie.spec returns)
+is-leap-february-spec = tie.close (tie.spec (λ c. refl))

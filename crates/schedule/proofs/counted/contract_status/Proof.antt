@@ -4,14 +4,8 @@ use borrow.Author.Needs.{needs}
 use Rattle.schedule.proofs.counted.contract_status.Statement.{statement}
 use Rattle.schedule.proofs.counted.contract_status.Tie as tie
 
-body-at-requires : tie.Need-body-at-requires
-body-at-requires c κs = search needs
-
-status-in-requires : tie.Need-status-in-requires
-status-in-requires c κs = search needs
-
 returns : tie.Need-returns
 returns c = rw (c .before .body-at .ensures) at (c .status-in .ensures)
 
 pub contract-status-spec : {M : Type 1} → statement M
-contract-status-spec = tie.close (tie.spec body-at-requires status-in-requires returns)
+contract-status-spec = tie.close (tie.spec (λ c κs. search needs) (λ c κs. search needs) returns)

@@ -40,9 +40,6 @@ too-late : (B : List ℕ) (i : ℕ) → isAfter B i ≡ true → (count i (isLat
 unfolding isCounted
 too-late B i a z = rw (a, ne-eqb _ _ z) (sym (and-false (isLate B i)))
 
-passed-before-requires : tie.Need-passed-before-requires
-passed-before-requires c κs = search needs
-
 mul-u16-at : tie.Need-mul-u16-at
 unfolding listed
 mul-u16-at c = omega arith
@@ -51,32 +48,11 @@ add-u16-at : tie.Need-add-u16-at
 unfolding listed
 add-u16-at c = omega arith
 
-u16-at-requires : tie.Need-u16-at-requires
-u16-at-requires c κs = search needs
-
-byte-at-requires : tie.Need-byte-at-requires
-byte-at-requires c κs = search needs
-
-cast-if1 : tie.Need-cast-if1
-cast-if1 c = search needs
-
-u16-at-requires-2 : tie.Need-u16-at-requires-2
-u16-at-requires-2 c κs = search needs
-
-in-mask-requires : tie.Need-in-mask-requires
-in-mask-requires c κs = search needs
-
 returns : tie.Need-returns
 returns c = c .in-mask .ensures ∙ by-front _ _ (c .before .before .before .before .before .u16-at .ensures) (not-after _ _ (c .before .before .before .before .before .before .passed-before .ensures .front) (c .before .before .before .before .byte-at .ensures) (c .before .before .if1 .taken)) (c .before .u16-at2 .ensures)
 
 returns-2 : tie.Need-returns-2
 returns-2 c = too-late _ _ (after _ _ (c .before .before .before .before .before .before .passed-before .ensures .front) (c .before .before .before .before .byte-at .ensures) (c .before .before .if1 .left)) (λ z. c .if2 .taken (c .before .before .before .before .before .before .passed-before .ensures .extra ∙ z))
-
-u16-at-requires-3 : tie.Need-u16-at-requires-3
-u16-at-requires-3 c κs = search needs
-
-in-mask-requires-2 : tie.Need-in-mask-requires-2
-in-mask-requires-2 c κs = search needs
 
 returns-3 : tie.Need-returns-3
 returns-3 c = c .in-mask2 .ensures
@@ -86,16 +62,16 @@ pub is-counted-spec : {M : Type 1} → statement M
 is-counted-spec =
     tie.close
     (tie.spec
-    passed-before-requires
+    (λ c κs. search needs)
     mul-u16-at
     add-u16-at
-    u16-at-requires
-    byte-at-requires
-    cast-if1
-    u16-at-requires-2
-    in-mask-requires
+    (λ c κs. search needs)
+    (λ c κs. search needs)
+    (λ c. search needs)
+    (λ c κs. search needs)
+    (λ c κs. search needs)
     returns
     returns-2
-    u16-at-requires-3
-    in-mask-requires-2
+    (λ c κs. search needs)
+    (λ c κs. search needs)
     returns-3)

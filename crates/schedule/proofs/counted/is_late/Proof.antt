@@ -8,11 +8,8 @@ use Rattle.schedule.proofs.counted.is_late.Tie as tie
 returns : tie.Need-returns
 returns c = simp (lt-leb _ _ (c .if1 .taken))
 
-in-mask-requires : tie.Need-in-mask-requires
-in-mask-requires c κs = search needs
-
 returns-2 : tie.Need-returns-2
 returns-2 c = simp (le-leb _ _ (c .before .if1 .left)) (c .in-mask .ensures)
 
 pub is-late-spec : {M : Type 1} → statement M
-is-late-spec = tie.close (tie.spec returns in-mask-requires returns-2)
+is-late-spec = tie.close (tie.spec returns (λ c κs. search needs) returns-2)

@@ -38,18 +38,6 @@ Inv-loop body n k front-mask extra-mask front₀ extra₀ i₀ front extra i =
 abbrev μ-loop : tie.MeasureT-loop
 μ-loop body n k front-mask extra-mask front₀ extra₀ i₀ front extra i = n - i
 
-byte-at-requires : tie.Need-byte-at-requires Inv-loop μ-loop
-byte-at-requires c κs = search needs
-
-cast-k : tie.Need-cast-k Inv-loop μ-loop
-cast-k c = search needs
-
-u16-at-requires : tie.Need-u16-at-requires Inv-loop μ-loop
-u16-at-requires c κs = search needs
-
-u16-at-requires-2 : tie.Need-u16-at-requires-2 Inv-loop μ-loop
-u16-at-requires-2 c κs = search needs
-
 loop-holds : tie.Need-loop-holds Inv-loop μ-loop
 loop-holds c = (search needs, search needs, search needs, sym (sum-none _), sym (sum-none _))
 
@@ -61,24 +49,9 @@ add-u16-at : tie.Need-add-u16-at Inv-loop μ-loop
 unfolding listed
 add-u16-at c = omega arith
 
-u16-at-requires-3 : tie.Need-u16-at-requires-3 Inv-loop μ-loop
-u16-at-requires-3 c κs = search needs
-
-is-late-requires : tie.Need-is-late-requires Inv-loop μ-loop
-is-late-requires c κs = search needs
-
-one-requires : tie.Need-one-requires Inv-loop μ-loop
-one-requires c κs = search needs
-
 add-extra : tie.Need-add-extra Inv-loop μ-loop
 unfolding listed
 add-extra c = omega arith
-
-in-mask-requires : tie.Need-in-mask-requires Inv-loop μ-loop
-in-mask-requires c κs = search needs
-
-one-requires-2 : tie.Need-one-requires-2 Inv-loop μ-loop
-one-requires-2 c κs = search needs
 
 add-front : tie.Need-add-front Inv-loop μ-loop
 unfolding listed
@@ -87,9 +60,6 @@ add-front c = omega arith
 add-i : tie.Need-add-i Inv-loop μ-loop
 unfolding listed
 add-i c = omega arith
-
-loop-less : tie.Need-loop-less Inv-loop μ-loop
-loop-less c = search needs
 
 loop-again : tie.Need-loop-again Inv-loop μ-loop
 loop-again c = let l = c .before .before .before .before .before .before .loop in (
@@ -111,21 +81,21 @@ passed-before-spec =
     (tie.spec
     Inv-loop
     μ-loop
-    byte-at-requires
-    cast-k
-    u16-at-requires
-    u16-at-requires-2
+    (λ c κs. search needs)
+    (λ c. search needs)
+    (λ c κs. search needs)
+    (λ c κs. search needs)
     loop-holds
     mul-u16-at
     add-u16-at
-    u16-at-requires-3
-    is-late-requires
-    one-requires
+    (λ c κs. search needs)
+    (λ c κs. search needs)
+    (λ c κs. search needs)
     add-extra
-    in-mask-requires
-    one-requires-2
+    (λ c κs. search needs)
+    (λ c κs. search needs)
     add-front
     add-i
-    loop-less
+    (λ c. search needs)
     loop-again
     returns)

@@ -18,12 +18,6 @@ Inv-loop body m n i₀ i = seek 0 (listed body) (contractIs body m) ≡ seek i (
 abbrev μ-loop : tie.MeasureT-loop
 μ-loop body m n i₀ i = n - i
 
-listed-in-requires : tie.Need-listed-in-requires Inv-loop μ-loop
-listed-in-requires c κs = search needs
-
-loop-holds : tie.Need-loop-holds Inv-loop μ-loop
-loop-holds c = search needs
-
 mul-u16-at : tie.Need-mul-u16-at Inv-loop μ-loop
 unfolding listed
 mul-u16-at c = omega arith
@@ -32,21 +26,12 @@ add-u16-at : tie.Need-add-u16-at Inv-loop μ-loop
 unfolding listed
 add-u16-at c = omega arith
 
-u16-at-requires : tie.Need-u16-at-requires Inv-loop μ-loop
-u16-at-requires c κs = search needs
-
 returns : tie.Need-returns Inv-loop μ-loop
 unfolding contractIs contract
 returns c = sym
     (c .before .before .before .loop .inv
     ∙ seek-hit _ _ _ (rw (c .before .before .before .before .listed-in .ensures) at (c .before .before .loop-test .taken))
     (eq-eqb _ _ (sym (c .before .u16-at .ensures) ∙ c .if1 .taken)))
-
-add-i : tie.Need-add-i Inv-loop μ-loop
-add-i c = search needs
-
-loop-less : tie.Need-loop-less Inv-loop μ-loop
-loop-less c = search needs
 
 loop-again : tie.Need-loop-again Inv-loop μ-loop
 unfolding contractIs contract
@@ -63,13 +48,13 @@ seek-contract-spec =
     (tie.spec
     Inv-loop
     μ-loop
-    listed-in-requires
-    loop-holds
+    (λ c κs. search needs)
+    (λ c. search needs)
     mul-u16-at
     add-u16-at
-    u16-at-requires
+    (λ c κs. search needs)
     returns
-    add-i
-    loop-less
+    (λ c. search needs)
+    (λ c. search needs)
     loop-again
     returns-2)

@@ -9,18 +9,9 @@ use Rattle.schedule.specs.Counted.{contractListed, contractCounted, stat
 use Rattle.schedule.proofs.counted.status_in.Statement.{statement}
 use Rattle.schedule.proofs.counted.status_in.Tie as tie
 
-seek-contract-requires : tie.Need-seek-contract-requires
-seek-contract-requires c κs = search needs
-
-listed-in-requires : tie.Need-listed-in-requires
-listed-in-requires c κs = search needs
-
 returns : tie.Need-returns
 unfolding statusOf contractListed contractCounted
 returns c = sym (chosen (here (rw (c .before .before .seek-contract .ensures, c .before .listed-in .ensures) at (ap not (le-ltb _ _ (c .if1 .taken))))))
-
-is-counted-requires : tie.Need-is-counted-requires
-is-counted-requires c κs = search needs
 
 returns-2 : tie.Need-returns-2
 unfolding statusOf contractListed contractCounted
@@ -40,9 +31,9 @@ pub status-in-spec : {M : Type 1} → statement M
 status-in-spec =
     tie.close
     (tie.spec
-    seek-contract-requires
-    listed-in-requires
+    (λ c κs. search needs)
+    (λ c κs. search needs)
     returns
-    is-counted-requires
+    (λ c κs. search needs)
     returns-2
     returns-3)

@@ -6,14 +6,8 @@ use Rattle.schedule.specs.Fields.{isCode}
 use Rattle.schedule.proofs.fields.code_at.Statement.{statement}
 use Rattle.schedule.proofs.fields.code_at.Tie as tie
 
-byte-at-requires : tie.Need-byte-at-requires
-byte-at-requires c κs = search needs
-
-is-code-requires : tie.Need-is-code-requires
-is-code-requires c κs = search needs
-
 returns : tie.Need-returns
 returns c = c .is-code .ensures ∙ ap isCode (c .before .byte-at .ensures)
 
 pub code-at-spec : {M : Type 1} → statement M
-code-at-spec = tie.close (tie.spec byte-at-requires is-code-requires returns)
+code-at-spec = tie.close (tie.spec (λ c κs. search needs) (λ c κs. search needs) returns)

@@ -53,9 +53,6 @@ Inv-loop body n i₀ last₀ i last =
 abbrev μ-loop : tie.MeasureT-loop
 μ-loop body n i₀ last₀ i last = n - i
 
-listed-in-requires : tie.Need-listed-in-requires Inv-loop μ-loop
-listed-in-requires c κs = search needs
-
 loop-holds : tie.Need-loop-holds Inv-loop μ-loop
 unfolding before
 loop-holds c = (search needs, search needs, refl)
@@ -68,12 +65,6 @@ add-u16-at : tie.Need-add-u16-at Inv-loop μ-loop
 unfolding listed
 add-u16-at c = omega arith
 
-u16-at-requires : tie.Need-u16-at-requires Inv-loop μ-loop
-u16-at-requires c κs = search needs
-
-is-month-requires : tie.Need-is-month-requires Inv-loop μ-loop
-is-month-requires c κs = search needs
-
 returns : tie.Need-returns Inv-loop μ-loop
 returns c = stopped _ _ (c .before .before .before .before .loop .inv .2) (rw (c .before .before .before .before .before .listed-in .ensures) at (c .before .before .before .loop-test .taken))
     (off-range _ _ _ _ (c .before .before .u16-at .ensures) (c .before .is-month .ensures) (c .if1 .taken))
@@ -81,12 +72,6 @@ returns c = stopped _ _ (c .before .before .before .before .loop .inv .2) (rw (c
 returns-2 : tie.Need-returns-2 Inv-loop μ-loop
 returns-2 c = stopped _ _ (c .before .before .before .before .before .loop .inv .2) (rw (c .before .before .before .before .before .before .listed-in .ensures) at (c .before .before .before .before .loop-test .taken))
     (not-rising _ _ _ _ (c .before .before .before .u16-at .ensures) (c .before .before .is-month .ensures) (c .before .if1 .left) (rw (c .before .before .before .before .before .loop .inv .1) at (c .if2 .taken)))
-
-add-i : tie.Need-add-i Inv-loop μ-loop
-add-i c = search needs
-
-loop-less : tie.Need-loop-less Inv-loop μ-loop
-loop-less c = search needs
 
 loop-again : tie.Need-loop-again Inv-loop μ-loop
 loop-again c = (
@@ -106,15 +91,15 @@ contracts-ok-spec =
     (tie.spec
     Inv-loop
     μ-loop
-    listed-in-requires
+    (λ c κs. search needs)
     loop-holds
     mul-u16-at
     add-u16-at
-    u16-at-requires
-    is-month-requires
+    (λ c κs. search needs)
+    (λ c κs. search needs)
     returns
     returns-2
-    add-i
-    loop-less
+    (λ c. search needs)
+    (λ c. search needs)
     loop-again
     returns-3)

@@ -8,21 +8,6 @@ use Rattle.schedule.proofs.Laws.{days-most}
 use Rattle.schedule.proofs.fields.head_ok.Statement.{statement}
 use Rattle.schedule.proofs.fields.head_ok.Tie as tie
 
-u16-at-requires : tie.Need-u16-at-requires
-u16-at-requires c κs = search needs
-
-days-in-requires : tie.Need-days-in-requires
-days-in-requires c κs = search needs
-
-is-month-requires : tie.Need-is-month-requires
-is-month-requires c κs = search needs
-
-u32-at-requires : tie.Need-u32-at-requires
-u32-at-requires c κs = search needs
-
-cast-result : tie.Need-cast-result
-cast-result c = search needs
-
 shr-result : tie.Need-shr-result
 shr-result c = omega (arith, c .before .before .days-in .ensures, days-most (c .before .before .before .u16-at .result))
 
@@ -34,10 +19,10 @@ pub head-ok-spec : {M : Type 1} → statement M
 head-ok-spec =
     tie.close
     (tie.spec
-    u16-at-requires
-    days-in-requires
-    is-month-requires
-    u32-at-requires
-    cast-result
+    (λ c κs. search needs)
+    (λ c κs. search needs)
+    (λ c κs. search needs)
+    (λ c κs. search needs)
+    (λ c. search needs)
     shr-result
     returns)

@@ -10,12 +10,9 @@ returns : tie.Need-returns
 unfolding listed
 returns c = omega arith
 
-sub-result : tie.Need-sub-result
-sub-result c = search needs
-
 returns-2 : tie.Need-returns-2
 unfolding listed
 returns-2 c = omega arith
 
 pub listed-in-spec : {M : Type 1} → statement M
-listed-in-spec = tie.close (tie.spec returns sub-result returns-2)
+listed-in-spec = tie.close (tie.spec returns (λ c. search needs) returns-2)

@@ -6,21 +6,9 @@ use Rattle.schedule.specs.Fields.{firmRead}
 use Rattle.schedule.proofs.fields.read_firm.Statement.{statement}
 use Rattle.schedule.proofs.fields.read_firm.Tie as tie
 
-firm-ok-requires : tie.Need-firm-ok-requires
-firm-ok-requires c κs = search needs
-
 returns : tie.Need-returns
 unfolding firmRead
 returns c = rw (no (c .before .firm-ok .ensures) (c .if1 .taken))
-
-byte-at-requires : tie.Need-byte-at-requires
-byte-at-requires c κs = search needs
-
-byte-at-requires-2 : tie.Need-byte-at-requires-2
-byte-at-requires-2 c κs = search needs
-
-byte-at-requires-3 : tie.Need-byte-at-requires-3
-byte-at-requires-3 c κs = search needs
 
 returns-2 : tie.Need-returns-2
 unfolding firmRead
@@ -30,9 +18,9 @@ pub read-firm-spec : {M : Type 1} → statement M
 read-firm-spec =
     tie.close
     (tie.spec
-    firm-ok-requires
+    (λ c κs. search needs)
     returns
-    byte-at-requires
-    byte-at-requires-2
-    byte-at-requires-3
+    (λ c κs. search needs)
+    (λ c κs. search needs)
+    (λ c κs. search needs)
     returns-2)

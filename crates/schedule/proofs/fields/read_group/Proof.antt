@@ -6,19 +6,13 @@ use Rattle.schedule.specs.Fields.{groupRead}
 use Rattle.schedule.proofs.fields.read_group.Statement.{statement}
 use Rattle.schedule.proofs.fields.read_group.Tie as tie
 
-group-ok-requires : tie.Need-group-ok-requires
-group-ok-requires c κs = search needs
-
 returns : tie.Need-returns
 unfolding groupRead
 returns c = rw (no (c .before .group-ok .ensures) (c .if1 .taken))
-
-group-fields-requires : tie.Need-group-fields-requires
-group-fields-requires c κs = search needs
 
 returns-2 : tie.Need-returns-2
 unfolding groupRead
 returns-2 c = rw (yes (c .before .before .group-ok .ensures) (c .before .if1 .left), c .group-fields .ensures)
 
 pub read-group-spec : {M : Type 1} → statement M
-read-group-spec = tie.close (tie.spec group-ok-requires returns group-fields-requires returns-2)
+read-group-spec = tie.close (tie.spec (λ c κs. search needs) returns (λ c κs. search needs) returns-2)

@@ -17,28 +17,10 @@ Inv-loop s start firms code n from i₀ i =
 abbrev μ-loop : tie.MeasureT-loop
 μ-loop s start firms code n from i₀ i = n - i
 
-loop-holds : tie.Need-loop-holds Inv-loop μ-loop
-loop-holds c = search needs
-
-mul-firm-has : tie.Need-mul-firm-has Inv-loop μ-loop
-mul-firm-has c = search needs
-
-add-firm-has : tie.Need-add-firm-has Inv-loop μ-loop
-add-firm-has c = search needs
-
-firm-has-requires : tie.Need-firm-has-requires Inv-loop μ-loop
-firm-has-requires c κs = search needs
-
 returns : tie.Need-returns Inv-loop μ-loop
 unfolding firmFound firmListed firmIs
 returns c = let here = c .before .before .before .loop .inv .1 ∙ seek-hit _ _ _ (c .before .before .loop-test .taken) (sym (c .before .firm-has .ensures) ∙ c .if1 .taken) in
     simp (here, lt-ltb _ _ (c .before .before .loop-test .taken))
-
-add-i : tie.Need-add-i Inv-loop μ-loop
-add-i c = search needs
-
-loop-less : tie.Need-loop-less Inv-loop μ-loop
-loop-less c = search needs
 
 loop-again : tie.Need-loop-again Inv-loop μ-loop
 unfolding firmIs
@@ -54,12 +36,12 @@ find-firm-spec =
     (tie.spec
     Inv-loop
     μ-loop
-    loop-holds
-    mul-firm-has
-    add-firm-has
-    firm-has-requires
+    (λ c. search needs)
+    (λ c. search needs)
+    (λ c. search needs)
+    (λ c κs. search needs)
     returns
-    add-i
-    loop-less
+    (λ c. search needs)
+    (λ c. search needs)
     loop-again
     returns-2)

@@ -25,12 +25,6 @@ loop-holds : tie.Need-loop-holds Inv-loop μ-loop
 unfolding groupStart
 loop-holds c = search needs
 
-group-has-requires : tie.Need-group-has-requires Inv-loop μ-loop
-group-has-requires c κs = search needs
-
-group-at-requires : tie.Need-group-at-requires Inv-loop μ-loop
-group-at-requires c κs = search needs
-
 returns : tie.Need-returns Inv-loop μ-loop
 unfolding groupFound groupListed groupIs
 returns c = let l = c .before .before .before .before .loop in
@@ -38,21 +32,6 @@ returns c = let l = c .before .before .before .before .loop in
     let has = sym (c .before .before .group-has .ensures) ∙ c .before .if1 .taken in
     let here = l .inv .3 ∙ seek-hit _ _ _ t (rw (l .inv .2) at has) in
     simp (here, lt-ltb _ _ t, c .group-at .ensures, l .inv .2)
-
-u16-at-requires : tie.Need-u16-at-requires Inv-loop μ-loop
-u16-at-requires c κs = search needs
-
-cast-at : tie.Need-cast-at Inv-loop μ-loop
-cast-at c = search needs
-
-add-at : tie.Need-add-at Inv-loop μ-loop
-add-at c = search needs
-
-add-i : tie.Need-add-i Inv-loop μ-loop
-add-i c = search needs
-
-loop-less : tie.Need-loop-less Inv-loop μ-loop
-loop-less c = search needs
 
 loop-again : tie.Need-loop-again Inv-loop μ-loop
 unfolding groupIs
@@ -77,13 +56,13 @@ find-group-spec =
     Inv-loop
     μ-loop
     loop-holds
-    group-has-requires
-    group-at-requires
+    (λ c κs. search needs)
+    (λ c κs. search needs)
     returns
-    u16-at-requires
-    cast-at
-    add-at
-    add-i
-    loop-less
+    (λ c κs. search needs)
+    (λ c. search needs)
+    (λ c. search needs)
+    (λ c. search needs)
+    (λ c. search needs)
     loop-again
     returns-2)

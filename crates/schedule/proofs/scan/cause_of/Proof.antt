@@ -39,54 +39,21 @@ rest-5 c r m = rest-4 (c .before .before) r (next (rw (c .before .before .before
 rest-6 : (c : tie.Else6) → Rest (c .before .before .before .before .before .before .before .before .before .before .before .before .before .before) 6
 rest-6 c r m = rest-5 (c .before .before .before) r (next (rw (body-length, c .before .before .before .before .before .before .before .before .before .before .before .u16-at .ensures, c .before .before .before .before .before .before .before .before .u16-at2 .ensures) at (ap not (sym (c .before .fields-ok .ensures)) ∙ c .if6 .left)) m)
 
-sub-if1 : tie.Need-sub-if1
-sub-if1 c = search needs
-
 returns : tie.Need-returns
 unfolding cause
 returns c = sym (chosen (here (lt-ltb _ _ (c .if1 .taken))))
 
-add-u16-at : tie.Need-add-u16-at
-add-u16-at c = search needs
-
-u16-at-requires : tie.Need-u16-at-requires
-u16-at-requires c κs = search needs
-
-is-due-requires : tie.Need-is-due-requires
-is-due-requires c κs = search needs
-
 returns-2 : tie.Need-returns-2
 returns-2 c = rest-1 (c .before .before .before) 2 (here (rw (c .before .before .u16-at .ensures) at (ap not (sym (c .before .is-due .ensures)) ∙ c .if2 .taken)))
-
-u16-at-requires-2 : tie.Need-u16-at-requires-2
-u16-at-requires-2 c κs = search needs
-
-cast-len : tie.Need-cast-len
-cast-len c = search needs
-
-length-ok-requires : tie.Need-length-ok-requires
-length-ok-requires c κs = search needs
 
 returns-3 : tie.Need-returns-3
 returns-3 c = rest-2 (c .before .before .before) 3 (here (rw (c .before .before .before .before .before .u16-at .ensures, c .before .before .u16-at2 .ensures) at (ap not (sym (c .before .length-ok .ensures)) ∙ c .if3 .taken)))
 
-sub-if4 : tie.Need-sub-if4
-sub-if4 c = search needs
-
 returns-4 : tie.Need-returns-4
 returns-4 c = rest-3 (c .before) 1 (here (rw (c .before .before .before .u16-at2 .ensures) at (lt-ltb _ _ (c .if4 .taken))))
 
-is-full-requires : tie.Need-is-full-requires
-is-full-requires c κs = search needs
-
 returns-5 : tie.Need-returns-5
 returns-5 c = rest-4 (c .before .before) 7 (here (rw (c .before .before .before .before .before .before .before .before .u16-at .ensures) at (sym (c .before .is-full .ensures) ∙ c .if5 .taken)))
-
-add-body : tie.Need-add-body
-add-body c = search needs
-
-add-body-2 : tie.Need-add-body-2
-add-body-2 c = search needs
 
 sub-body : tie.Need-sub-body
 sub-body c = omega (arith, length-bounds _ _ (yes (c .before .before .before .before .length-ok .ensures) (c .before .before .before .if3 .left)))
@@ -94,17 +61,8 @@ sub-body c = omega (arith, length-bounds _ _ (yes (c .before .before .before .be
 part-body-start : tie.Need-part-body-start
 part-body-start c = omega (arith, length-bounds _ _ (yes (c .before .before .before .before .length-ok .ensures) (c .before .before .before .if3 .left)))
 
-part-body-end : tie.Need-part-body-end
-part-body-end c = search needs
-
-fields-ok-requires : tie.Need-fields-ok-requires
-fields-ok-requires c κs = search needs
-
 returns-6 : tie.Need-returns-6
 returns-6 c = rest-5 (c .before .before .before) 5 (here (rw (body-length, c .before .before .before .before .before .before .before .before .before .before .before .u16-at .ensures, c .before .before .before .before .before .before .before .before .u16-at2 .ensures) at (ap not (sym (c .before .fields-ok .ensures)) ∙ c .if6 .taken)))
-
-is-repeated-requires : tie.Need-is-repeated-requires
-is-repeated-requires c κs = search needs
 
 returns-7 : tie.Need-returns-7
 returns-7 c = rest-6 (c .before .before) 6 (here (rw (body-length, c .before .before .before .before .before .before .before .before .before .before .before .before .before .u16-at .ensures, c .before .before .before .before .before .before .before .before .before .before .u16-at2 .ensures) at (sym (c .before .is-repeated .ensures) ∙ c .if7 .taken)))
@@ -116,27 +74,27 @@ pub cause-of-spec : {M : Type 1} → statement M
 cause-of-spec =
     tie.close
     (tie.spec
-    sub-if1
+    (λ c. search needs)
     returns
-    add-u16-at
-    u16-at-requires
-    is-due-requires
+    (λ c. search needs)
+    (λ c κs. search needs)
+    (λ c κs. search needs)
     returns-2
-    u16-at-requires-2
-    cast-len
-    length-ok-requires
+    (λ c κs. search needs)
+    (λ c. search needs)
+    (λ c κs. search needs)
     returns-3
-    sub-if4
+    (λ c. search needs)
     returns-4
-    is-full-requires
+    (λ c κs. search needs)
     returns-5
-    add-body
-    add-body-2
+    (λ c. search needs)
+    (λ c. search needs)
     sub-body
     part-body-start
-    part-body-end
-    fields-ok-requires
+    (λ c. search needs)
+    (λ c κs. search needs)
     returns-6
-    is-repeated-requires
+    (λ c κs. search needs)
     returns-7
     returns-8)

@@ -24,16 +24,10 @@ loop-holds : tie.Need-loop-holds Inv-loop μ-loop
 unfolding checkOf
 loop-holds c = (length (now (c .before .args .schedule)) + 1, omega arith, refl, record { inside = search needs; groups = search needs; firms = search needs; near = search needs })
 
-cause-of-requires : tie.Need-cause-of-requires Inv-loop μ-loop
-cause-of-requires c κs = search needs
-
 returns : tie.Need-returns Inv-loop μ-loop
 returns c = let i = c .before .before .before .before .loop .inv in
     rw (c .before .cause-of .ensures)
     (sym (i .2 ∙ scan-refused _ _ (i .0) (omega arith) (c .before .before .if1 .taken) (λ z. c .if2 .taken (c .before .cause-of .ensures ∙ z))))
-
-next-record-requires : tie.Need-next-record-requires Inv-loop μ-loop
-next-record-requires c κs = search needs
 
 loop-less : tie.Need-loop-less Inv-loop μ-loop
 loop-less c = rw (c .next-record .ensures)
@@ -50,12 +44,6 @@ unfolding ending
 returns-2 c = let i = c .before .before .before .before .loop .inv in
     sym (i .2 ∙ scan-end _ _ (i .0) (omega arith) (c .before .before .if1 .left) ∙ rw (eq-eqb _ _ (c .if3 .taken)))
 
-u16-at-requires : tie.Need-u16-at-requires Inv-loop μ-loop
-u16-at-requires c κs = search needs
-
-u32-at-requires : tie.Need-u32-at-requires Inv-loop μ-loop
-u32-at-requires c κs = search needs
-
 returns-3 : tie.Need-returns-3 Inv-loop μ-loop
 unfolding ending
 returns-3 c = let i = c .before .before .before .before .before .before .loop .inv in
@@ -69,12 +57,12 @@ check-spec =
     Inv-loop
     μ-loop
     loop-holds
-    cause-of-requires
+    (λ c κs. search needs)
     returns
-    next-record-requires
+    (λ c κs. search needs)
     loop-less
     loop-again
     returns-2
-    u16-at-requires
-    u32-at-requires
+    (λ c κs. search needs)
+    (λ c κs. search needs)
     returns-3)

@@ -9,33 +9,6 @@ use Rattle.schedule.proofs.Laws.{read-good, read-bad, kind-1, kind-2, k
 use Rattle.schedule.proofs.scan.fields_ok.Statement.{statement}
 use Rattle.schedule.proofs.scan.fields_ok.Tie as tie
 
-read-head-requires : tie.Need-read-head-requires
-read-head-requires c κs = search needs
-
-enum-told : tie.Need-enum-told
-enum-told c = search needs
-
-enum-told-2 : tie.Need-enum-told-2
-enum-told-2 c = search needs
-
-read-group-requires : tie.Need-read-group-requires
-read-group-requires c κs = search needs
-
-enum-told-3 : tie.Need-enum-told-3
-enum-told-3 c = search needs
-
-enum-told-4 : tie.Need-enum-told-4
-enum-told-4 c = search needs
-
-read-firm-requires : tie.Need-read-firm-requires
-read-firm-requires c κs = search needs
-
-enum-told-5 : tie.Need-enum-told-5
-enum-told-5 c = search needs
-
-enum-told-6 : tie.Need-enum-told-6
-enum-told-6 c = search needs
-
 returns : tie.Need-returns
 unfolding fieldsOk byKind headRead
 returns c = read-good _ _ (sym (ap headMeaning (c .enum-told .given .1)) ∙ c .before .before .read-head .ensures) ∙ sym (chosen (kind-1 (c .before .before .before .match .keys1)))
@@ -68,15 +41,15 @@ pub fields-ok-spec : {M : Type 1} → statement M
 fields-ok-spec =
     tie.close
     (tie.spec
-    read-head-requires
-    enum-told
-    enum-told-2
-    read-group-requires
-    enum-told-3
-    enum-told-4
-    read-firm-requires
-    enum-told-5
-    enum-told-6
+    (λ c κs. search needs)
+    (λ c. search needs)
+    (λ c. search needs)
+    (λ c κs. search needs)
+    (λ c. search needs)
+    (λ c. search needs)
+    (λ c κs. search needs)
+    (λ c. search needs)
+    (λ c. search needs)
     returns
     returns-2
     returns-3

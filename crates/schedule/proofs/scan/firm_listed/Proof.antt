@@ -7,15 +7,6 @@ use Rattle.schedule.proofs.Laws.{found-listed, unlisted-listed}
 use Rattle.schedule.proofs.scan.firm_listed.Statement.{statement}
 use Rattle.schedule.proofs.scan.firm_listed.Tie as tie
 
-find-firm-requires : tie.Need-find-firm-requires
-find-firm-requires c κs = search needs
-
-enum-told : tie.Need-enum-told
-enum-told c = search needs
-
-enum-told-2 : tie.Need-enum-told-2
-enum-told-2 c = search needs
-
 returns : tie.Need-returns
 unfolding firmFound
 returns c = found-listed _ _ (sym (ap firmMeaning (c .enum-told .given .1)) ∙ c .before .before .find-firm .ensures)
@@ -25,4 +16,4 @@ unfolding firmFound
 returns-2 c = unlisted-listed _ _ (sym (ap firmMeaning (c .enum-told2 .given .1)) ∙ c .before .before .find-firm .ensures)
 
 pub firm-listed-spec : {M : Type 1} → statement M
-firm-listed-spec = tie.close (tie.spec find-firm-requires enum-told enum-told-2 returns returns-2)
+firm-listed-spec = tie.close (tie.spec (λ c κs. search needs) (λ c. search needs) (λ c. search needs) returns returns-2)

@@ -7,15 +7,6 @@ use Rattle.schedule.proofs.Laws.{found-listed, unlisted-listed}
 use Rattle.schedule.proofs.scan.group_listed.Statement.{statement}
 use Rattle.schedule.proofs.scan.group_listed.Tie as tie
 
-find-group-requires : tie.Need-find-group-requires
-find-group-requires c κs = search needs
-
-enum-told : tie.Need-enum-told
-enum-told c = search needs
-
-enum-told-2 : tie.Need-enum-told-2
-enum-told-2 c = search needs
-
 returns : tie.Need-returns
 unfolding groupFound
 returns c = found-listed _ _ (sym (ap groupMeaning (c .enum-told .given .1)) ∙ c .before .before .find-group .ensures)
@@ -26,4 +17,4 @@ returns-2 c = unlisted-listed _ _ (sym (ap groupMeaning (c .enum-told2 .given .1
 
 pub group-listed-spec : {M : Type 1} → statement M
 group-listed-spec =
-    tie.close (tie.spec find-group-requires enum-told enum-told-2 returns returns-2)
+    tie.close (tie.spec (λ c κs. search needs) (λ c. search needs) (λ c. search needs) returns returns-2)

@@ -8,18 +8,6 @@ use Rattle.schedule.proofs.Laws.{kind-1, kind-2, kind-3, kind-other}
 use Rattle.schedule.proofs.scan.is_repeated.Statement.{statement}
 use Rattle.schedule.proofs.scan.is_repeated.Tie as tie
 
-byte-at-requires : tie.Need-byte-at-requires
-byte-at-requires c κs = search needs
-
-byte-at-requires-2 : tie.Need-byte-at-requires-2
-byte-at-requires-2 c κs = search needs
-
-group-listed-requires : tie.Need-group-listed-requires
-group-listed-requires c κs = search needs
-
-firm-listed-requires : tie.Need-firm-listed-requires
-firm-listed-requires c κs = search needs
-
 returns : tie.Need-returns
 unfolding isRepeated byKind
 returns c = sym (chosen (kind-1 (c .match .keys1)))
@@ -40,10 +28,10 @@ pub is-repeated-spec : {M : Type 1} → statement M
 is-repeated-spec =
     tie.close
     (tie.spec
-    byte-at-requires
-    byte-at-requires-2
-    group-listed-requires
-    firm-listed-requires
+    (λ c κs. search needs)
+    (λ c κs. search needs)
+    (λ c κs. search needs)
+    (λ c κs. search needs)
     returns
     returns-2
     returns-3

@@ -8,33 +8,6 @@ use Rattle.schedule.proofs.Laws.{kind-1, kind-2, kind-3, kind-other}
 use Rattle.schedule.proofs.scan.next_record.Statement.{statement}
 use Rattle.schedule.proofs.scan.next_record.Tie as tie
 
-u16-at-requires : tie.Need-u16-at-requires
-u16-at-requires c κs = search needs
-
-cast-next : tie.Need-cast-next
-cast-next c = search needs
-
-add-next : tie.Need-add-next
-add-next c = search needs
-
-add-u16-at : tie.Need-add-u16-at
-add-u16-at c = search needs
-
-u16-at-requires-2 : tie.Need-u16-at-requires-2
-u16-at-requires-2 c κs = search needs
-
-cast-t9 : tie.Need-cast-t9
-cast-t9 c = search needs
-
-add-t10 : tie.Need-add-t10
-add-t10 c = search needs
-
-cast-t11 : tie.Need-cast-t11
-cast-t11 c = search needs
-
-add-t12 : tie.Need-add-t12
-add-t12 c = search needs
-
 returns : tie.Need-returns
 unfolding after byKind
 returns c = rw (c .before .before .u16-at .ensures) (sym (chosen (kind-1 (sym (c .before .u16-at2 .ensures) ∙ c .match .keys1))))
@@ -55,15 +28,15 @@ pub next-record-spec : {M : Type 1} → statement M
 next-record-spec =
     tie.close
     (tie.spec
-    u16-at-requires
-    cast-next
-    add-next
-    add-u16-at
-    u16-at-requires-2
-    cast-t9
-    add-t10
-    cast-t11
-    add-t12
+    (λ c κs. search needs)
+    (λ c. search needs)
+    (λ c. search needs)
+    (λ c. search needs)
+    (λ c κs. search needs)
+    (λ c. search needs)
+    (λ c. search needs)
+    (λ c. search needs)
+    (λ c. search needs)
     returns
     returns-2
     returns-3

@@ -8,15 +8,6 @@ use Rattle.schedule.specs.Lookup.{groupStart}
 use Rattle.statement.proofs.groups.group_of.Statement.{statement}
 use Rattle.statement.proofs.groups.group_of.Tie as tie
 
-mul-group-at : tie.Need-mul-group-at
-mul-group-at c = search needs
-
-element-copy-out-group-at : tie.Need-element-copy-out-group-at
-element-copy-out-group-at c = search needs
-
-group-at-requires : tie.Need-group-at-requires
-group-at-requires c κs = search needs
-
 returns : tie.Need-returns
 returns c =
     let s = c .before .before .before .pre in
@@ -26,4 +17,4 @@ returns c =
 
 pub group-of-spec : {M : Type 1} → statement M
 group-of-spec =
-    tie.close (tie.spec mul-group-at element-copy-out-group-at group-at-requires returns)
+    tie.close (tie.spec (λ c. search needs) (λ c. search needs) (λ c κs. search needs) returns)

@@ -22,27 +22,6 @@ loop-holds : tie.Need-loop-holds Inv-loop μ-loop
 unfolding groupStart
 loop-holds c = rw joined-none (omega arith, omega arith, refl, refl)
 
-mul-starts : tie.Need-mul-starts Inv-loop μ-loop
-mul-starts c = search needs
-
-array-write-starts : tie.Need-array-write-starts Inv-loop μ-loop
-array-write-starts c = search needs
-
-u16-at-requires : tie.Need-u16-at-requires Inv-loop μ-loop
-u16-at-requires c κs = search needs
-
-cast-at : tie.Need-cast-at Inv-loop μ-loop
-cast-at c = search needs
-
-add-at : tie.Need-add-at Inv-loop μ-loop
-add-at c = search needs
-
-add-g : tie.Need-add-g Inv-loop μ-loop
-add-g c = search needs
-
-loop-less : tie.Need-loop-less Inv-loop μ-loop
-loop-less c = search needs
-
 loop-again : tie.Need-loop-again Inv-loop μ-loop
 loop-again c =
     let l = c .before .before .loop .inv in
@@ -65,12 +44,12 @@ group-starts-spec =
     Inv-loop
     μ-loop
     loop-holds
-    mul-starts
-    array-write-starts
-    u16-at-requires
-    cast-at
-    add-at
-    add-g
-    loop-less
+    (λ c. search needs)
+    (λ c. search needs)
+    (λ c κs. search needs)
+    (λ c. search needs)
+    (λ c. search needs)
+    (λ c. search needs)
+    (λ c. search needs)
     loop-again
     returns)

@@ -7,12 +7,6 @@ use Rattle.statement.proofs.Waivers.{held-grouped, held-marks}
 use Rattle.statement.proofs.marks.firm_marks.Statement.{statement}
 use Rattle.statement.proofs.marks.firm_marks.Tie as tie
 
-fill-codes-requires : tie.Need-fill-codes-requires
-fill-codes-requires c κs = search needs
-
-fill-exempts-requires : tie.Need-fill-exempts-requires
-fill-exempts-requires c κs = search needs
-
 give-marks-requires : tie.Need-give-marks-requires
 give-marks-requires c κs =
     let s = c .before .before .before .before .before in
@@ -28,4 +22,4 @@ returns c =
 
 pub firm-marks-spec : {M : Type 1} → statement M
 firm-marks-spec =
-    tie.close (tie.spec fill-codes-requires fill-exempts-requires give-marks-requires returns)
+    tie.close (tie.spec (λ c κs. search needs) (λ c κs. search needs) give-marks-requires returns)

@@ -30,39 +30,12 @@ abbrev μ-loop : tie.MeasureT-loop
 loop-holds : tie.Need-loop-holds Inv-loop μ-loop
 loop-holds c = rw (joined-none, sum-none, sum-none) (omega arith, refl, refl, refl)
 
-array-read-code : tie.Need-array-read-code Inv-loop μ-loop
-array-read-code c = search needs
-
-element-copy-out-exempt : tie.Need-element-copy-out-exempt Inv-loop μ-loop
-element-copy-out-exempt c = search needs
-
-element-copy-out-grouping : tie.Need-element-copy-out-grouping Inv-loop μ-loop
-element-copy-out-grouping c = search needs
-
-count-in-requires : tie.Need-count-in-requires Inv-loop μ-loop
-count-in-requires c κs = search needs
-
-mark-of-requires : tie.Need-mark-of-requires Inv-loop μ-loop
-mark-of-requires c κs = search needs
-
-array-write-marks : tie.Need-array-write-marks Inv-loop μ-loop
-array-write-marks c = search needs
-
-bit-requires : tie.Need-bit-requires Inv-loop μ-loop
-bit-requires c κs = search needs
-
 with-count-requires : tie.Need-with-count-requires Inv-loop μ-loop
 with-count-requires c κs =
     let l = c .before .before .before .before .before .before in
     let s = l .before in
     let j : Judged = held (s .args .t1) (s .args .exempts .now) (s .args .groupings .now) in
     omega (arith, count-most (l .loop .i) (leftIn j 1), count-most (l .loop .i) (leftIn j 2), l .loop .inv, c .bit .ensures .1)
-
-add-i : tie.Need-add-i Inv-loop μ-loop
-add-i c = search needs
-
-loop-less : tie.Need-loop-less Inv-loop μ-loop
-loop-less c = search needs
 
 loop-again : tie.Need-loop-again Inv-loop μ-loop
 loop-again c =
@@ -96,15 +69,15 @@ give-marks-spec =
     Inv-loop
     μ-loop
     loop-holds
-    array-read-code
-    element-copy-out-exempt
-    element-copy-out-grouping
-    count-in-requires
-    mark-of-requires
-    array-write-marks
-    bit-requires
+    (λ c. search needs)
+    (λ c. search needs)
+    (λ c. search needs)
+    (λ c κs. search needs)
+    (λ c κs. search needs)
+    (λ c. search needs)
+    (λ c κs. search needs)
     with-count-requires
-    add-i
-    loop-less
+    (λ c. search needs)
+    (λ c. search needs)
     loop-again
     returns)

@@ -23,18 +23,6 @@ abbrev μ-loop : tie.MeasureT-loop
 loop-holds : tie.Need-loop-holds Inv-loop μ-loop
 loop-holds c = rw joined-none (omega arith, refl)
 
-place-code-requires : tie.Need-place-code-requires Inv-loop μ-loop
-place-code-requires c κs = search needs
-
-array-write-codes : tie.Need-array-write-codes Inv-loop μ-loop
-array-write-codes c = search needs
-
-add-i : tie.Need-add-i Inv-loop μ-loop
-add-i c = search needs
-
-loop-less : tie.Need-loop-less Inv-loop μ-loop
-loop-less c = search needs
-
 loop-again : tie.Need-loop-again Inv-loop μ-loop
 loop-again c =
     let l = c .before .before in (
@@ -56,9 +44,9 @@ fill-codes-spec =
     Inv-loop
     μ-loop
     loop-holds
-    place-code-requires
-    array-write-codes
-    add-i
-    loop-less
+    (λ c κs. search needs)
+    (λ c. search needs)
+    (λ c. search needs)
+    (λ c. search needs)
     loop-again
     returns)

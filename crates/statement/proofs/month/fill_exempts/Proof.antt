@@ -24,18 +24,6 @@ abbrev μ-loop : tie.MeasureT-loop
 loop-holds : tie.Need-loop-holds Inv-loop μ-loop
 loop-holds c = rw joined-none (omega arith, refl)
 
-is-exempt-requires : tie.Need-is-exempt-requires Inv-loop μ-loop
-is-exempt-requires c κs = search needs
-
-array-write-exempts : tie.Need-array-write-exempts Inv-loop μ-loop
-array-write-exempts c = search needs
-
-add-g : tie.Need-add-g Inv-loop μ-loop
-add-g c = search needs
-
-loop-less : tie.Need-loop-less Inv-loop μ-loop
-loop-less c = search needs
-
 loop-again : tie.Need-loop-again Inv-loop μ-loop
 loop-again c =
     let l = c .before .before in (
@@ -57,9 +45,9 @@ fill-exempts-spec =
     Inv-loop
     μ-loop
     loop-holds
-    is-exempt-requires
-    array-write-exempts
-    add-g
-    loop-less
+    (λ c κs. search needs)
+    (λ c. search needs)
+    (λ c. search needs)
+    (λ c. search needs)
     loop-again
     returns)

@@ -17,28 +17,10 @@ use Rattle.statement.proofs.Exempt.{cell-fits, exempt-verdict, exempt-p
 use Rattle.statement.proofs.month.is_exempt.Statement.{statement}
 use Rattle.statement.proofs.month.is_exempt.Tie as tie
 
-cast-if1 : tie.Need-cast-if1
-cast-if1 c = search needs
-
 returns : tie.Need-returns
 returns c =
     let a = c .before .before .before .before .args in
     sym (exempt-past (a .schedule .now) (a .l) (a .book .now) (a .firm) (a .g) (c .if1 .taken))
-
-group-of-requires : tie.Need-group-of-requires
-group-of-requires c κs = search needs
-
-cast-benchmark : tie.Need-cast-benchmark
-cast-benchmark c = search needs
-
-cast-month-sums : tie.Need-cast-month-sums
-cast-month-sums c = search needs
-
-month-sums-requires : tie.Need-month-sums-requires
-month-sums-requires c κs = search needs
-
-days-verdict-requires : tie.Need-days-verdict-requires
-days-verdict-requires c κs = search needs
 
 returns-2 : tie.Need-returns-2
 unfolding sumsTo
@@ -57,11 +39,11 @@ pub is-exempt-spec : {M : Type 1} → statement M
 is-exempt-spec =
     tie.close
     (tie.spec
-    cast-if1
+    (λ c. search needs)
     returns
-    group-of-requires
-    cast-benchmark
-    cast-month-sums
-    month-sums-requires
-    days-verdict-requires
+    (λ c κs. search needs)
+    (λ c. search needs)
+    (λ c. search needs)
+    (λ c κs. search needs)
+    (λ c κs. search needs)
     returns-2)

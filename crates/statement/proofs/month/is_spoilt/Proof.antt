@@ -17,24 +17,12 @@ Inv-loop l book firm i₀ i = (i ≤ 992) × (seek 0 992 (isSpoilt l (cells (l .
 abbrev μ-loop : tie.MeasureT-loop
 μ-loop l book firm i₀ i = 992 - i
 
-loop-holds : tie.Need-loop-holds Inv-loop μ-loop
-loop-holds c = search needs
-
-spoilt-at-requires : tie.Need-spoilt-at-requires Inv-loop μ-loop
-spoilt-at-requires c κs = search needs
-
 returns : tie.Need-returns Inv-loop μ-loop
 unfolding spoilt
 returns c =
     let l = c .before .before .before in
     let here = l .loop .inv .1 ∙ seek-hit _ _ _ (c .before .before .loop-test .taken) (sym (c .before .spoilt-at .ensures) ∙ c .if1 .taken) in
     simp (here, lt-ltb _ _ (c .before .before .loop-test .taken))
-
-add-i : tie.Need-add-i Inv-loop μ-loop
-add-i c = search needs
-
-loop-less : tie.Need-loop-less Inv-loop μ-loop
-loop-less c = search needs
 
 loop-again : tie.Need-loop-again Inv-loop μ-loop
 loop-again c =
@@ -51,10 +39,10 @@ is-spoilt-spec =
     (tie.spec
     Inv-loop
     μ-loop
-    loop-holds
-    spoilt-at-requires
+    (λ c. search needs)
+    (λ c κs. search needs)
     returns
-    add-i
-    loop-less
+    (λ c. search needs)
+    (λ c. search needs)
     loop-again
     returns-2)

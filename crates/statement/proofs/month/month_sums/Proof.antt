@@ -26,18 +26,6 @@ abbrev μ-loop : tie.MeasureT-loop
 loop-holds : tie.Need-loop-holds Inv-loop μ-loop
 loop-holds c = rw sums-none (omega arith, refl)
 
-add-cell : tie.Need-add-cell Inv-loop μ-loop
-add-cell c = search needs
-
-cell-requires : tie.Need-cell-requires Inv-loop μ-loop
-cell-requires c κs = search needs
-
-add-in-effect : tie.Need-add-in-effect Inv-loop μ-loop
-add-in-effect c = search needs
-
-in-effect-requires : tie.Need-in-effect-requires Inv-loop μ-loop
-in-effect-requires c κs = search needs
-
 with-cell-requires : tie.Need-with-cell-requires Inv-loop μ-loop
 with-cell-requires c κs =
     let l = c .before .before .before .before in
@@ -50,12 +38,6 @@ with-cell-requires c κs =
       rw (l .loop .inv .1) (record { raw = omega (arith, w .raw); score = omega (arith, w .score); lots = omega (arith, w .lots); days = omega (arith, w .days) }),
       rw (c .before .in-effect .ensures, c .before .before .cell .ensures) (fit (l .loop .d + 1)),
     )
-
-add-d : tie.Need-add-d Inv-loop μ-loop
-add-d c = search needs
-
-loop-less : tie.Need-loop-less Inv-loop μ-loop
-loop-less c = search needs
 
 loop-again : tie.Need-loop-again Inv-loop μ-loop
 loop-again c =
@@ -76,12 +58,12 @@ month-sums-spec =
     Inv-loop
     μ-loop
     loop-holds
-    add-cell
-    cell-requires
-    add-in-effect
-    in-effect-requires
+    (λ c. search needs)
+    (λ c κs. search needs)
+    (λ c. search needs)
+    (λ c κs. search needs)
     with-cell-requires
-    add-d
-    loop-less
+    (λ c. search needs)
+    (λ c. search needs)
     loop-again
     returns)

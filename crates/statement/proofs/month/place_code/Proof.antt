@@ -28,38 +28,11 @@ is-code c =
     rw (c .days-verdict .ensures, v .cell .ensures, v .before .before .group-of .ensures)
     (verdict-place (now (a .schedule)) (cells (a .l .groups) (now (a .book)) (a .firm)) (s .pre .1 .1) (a .i) listed)
 
-add-day : tie.Need-add-day
-add-day c = search needs
-
-cast-day : tie.Need-cast-day
-cast-day c = search needs
-
-cast-if1 : tie.Need-cast-if1
-cast-if1 c = search needs
-
-in-effect-requires : tie.Need-in-effect-requires
-in-effect-requires c κs = search needs
-
 returns : tie.Need-returns
 returns c =
     let a = c .before .before .before .before .before .args in
     let e = no (ap (λ b. ltb (a .i % 32) (a .l .groups) && b) (c .before .in-effect .ensures)) (c .if1 .taken) in
     rw e
-
-group-of-requires : tie.Need-group-of-requires
-group-of-requires c κs = search needs
-
-cast-benchmark : tie.Need-cast-benchmark
-cast-benchmark c = search needs
-
-cast-cell : tie.Need-cast-cell
-cast-cell c = search needs
-
-cell-requires : tie.Need-cell-requires
-cell-requires c κs = search needs
-
-days-verdict-requires : tie.Need-days-verdict-requires
-days-verdict-requires c κs = search needs
 
 cast-result : tie.Need-cast-result
 cast-result c =
@@ -74,15 +47,15 @@ pub place-code-spec : {M : Type 1} → statement M
 place-code-spec =
     tie.close
     (tie.spec
-    add-day
-    cast-day
-    cast-if1
-    in-effect-requires
+    (λ c. search needs)
+    (λ c. search needs)
+    (λ c. search needs)
+    (λ c κs. search needs)
     returns
-    group-of-requires
-    cast-benchmark
-    cast-cell
-    cell-requires
-    days-verdict-requires
+    (λ c κs. search needs)
+    (λ c. search needs)
+    (λ c. search needs)
+    (λ c κs. search needs)
+    (λ c κs. search needs)
     cast-result
     returns-2)

@@ -10,8 +10,5 @@ with-day-requires c κs = (c .before .pre .0, c .before .pre .1 (c .if1 .taken))
 returns : tie.Need-returns
 returns c = rw (c .before .if1 .taken) (c .with-day .ensures)
 
-returns-2 : tie.Need-returns-2
-returns-2 c = search needs
-
 pub with-cell-spec : {M : Type 1} → statement M
-with-cell-spec = tie.close (tie.spec with-day-requires returns returns-2)
+with-cell-spec = tie.close (tie.spec with-day-requires returns (λ c. search needs))

@@ -7,14 +7,8 @@ use borrow.Author.Tests.{eq-eqb, ne-eqb}
 use Rattle.statement.proofs.marks.Left.with_count.Statement.{statement}
 use Rattle.statement.proofs.marks.Left.with_count.Tie as tie
 
-add-t5 : tie.Need-add-t5
-add-t5 c = search needs
-
 returns : tie.Need-returns
 returns c = rw (eq-eqb _ _ (c .before .if1 .taken), c .before .if1 .taken) (refl, sym (add-zero _))
-
-add-t6 : tie.Need-add-t6
-add-t6 c = search needs
 
 returns-2 : tie.Need-returns-2
 returns-2 c = rw (ne-eqb _ _ (c .before .before .if1 .left), eq-eqb _ _ (c .before .if2 .taken)) (sym (add-zero _), refl)
@@ -23,4 +17,4 @@ returns-3 : tie.Need-returns-3
 returns-3 c = rw (ne-eqb _ _ (c .before .if1 .left), ne-eqb _ _ (c .if2 .left)) (sym (add-zero _), sym (add-zero _))
 
 pub with-count-spec : {M : Type 1} → statement M
-with-count-spec = tie.close (tie.spec add-t5 returns add-t6 returns-2 returns-3)
+with-count-spec = tie.close (tie.spec (λ c. search needs) returns (λ c. search needs) returns-2 returns-3)

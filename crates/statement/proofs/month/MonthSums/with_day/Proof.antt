@@ -17,11 +17,5 @@ add-t5 c =
     let s = c .before .before .before .before .before .before in
     omega (arith, fitting 1 (s .args .t) (s .pre .1))
 
-add-t6 : tie.Need-add-t6
-add-t6 c = search needs
-
-returns : tie.Need-returns
-returns c = search needs
-
 pub with-day-spec : {M : Type 1} → statement M
-with-day-spec = tie.close (tie.spec add-t3 add-t4 add-t5 add-t6 returns)
+with-day-spec = tie.close (tie.spec add-t3 add-t4 add-t5 (λ c. search needs) (λ c. search needs))
