@@ -2,4 +2,3 @@ pub mod Laws
 pub mod Turns
 pub mod Good
 pub mod Found
-pub mod Status

@@ -1,4 +1,4 @@
--- Laws of `scan`: what one turn of the check's loop does, and that the place stays in bounds.
+-- Laws of `scan`: what one turn of the check's loop does, that the place stays in bounds, and that a refusal has a number.
 -- Assumes nothing.
 use Prim.Native.Nat.{ℕ, zero, suc, _+_, _-_, _*_, _≤_, _<_}
 use mathlib.Core.Bool.{true, false, not, false≢true}
@@ -8,21 +8,47 @@ use native.Mathlib.Omega.{arith}
 use lib.ListN.{length}
 use borrow.Author.Tests.{le-leb, lt-leb, eq-eqb, ne-eqb, eqb-true, eqb-false, ltb-false, not-false}
 use Rattle.wire.proofs.Choose.{here, next, done, chosen, passed}
-use Rattle.schedule.specs.Lookup.{lengthAt, kindAt}
-use Rattle.schedule.specs.Check.{byKind, isDue, lengthOk, isFull, cause, after, refused, ending, scan}
+use Rattle.records.specs.Bodies.{lengthAt, kindAt, bodyAt, headSize, largestGroup, firmSize}
+use Rattle.schedule.specs.Outcome.{refused}
+use Rattle.schedule.specs.Check.{kindHere, isDue, lengthOk, isFull, fieldsOk, isRepeated, cause, grown, after, ending, scan}
 use Rattle.schedule.specs.declared.scan.Cursor.{Cursor}
-use Rattle.schedule.proofs.Laws.{kind-1, kind-2, kind-3, kind-other, KindOf, head, group, firm, other, kindOf, length-bounds}
+use Rattle.schedule.specs.declared.scan.Kind.{Kind}
+use Rattle.schedule.specs.declared.scan.Kind.the-variants as kind
+use Rattle.schedule.proofs.Laws.{length-bounds}
 
 -- a place within the schedule, with no more records before it than a schedule has
 pub record Fine (S : List ℕ) (p : Cursor) : Type 0 where
   pub inside : p .at ≤ length S
-  pub groups : p .groups ≤ 32
-  pub firms : p .firms ≤ 200
-  pub near : p .at ≤ 10 + 144 * p .groups + 7 * p .firms
+  pub groups : p .held .groups ≤ 32
+  pub firms : p .held .firms ≤ 200
+  pub near : p .at ≤ headSize + largestGroup * p .held .groups + firmSize * p .held .firms
+
+-- what a record that no cause refuses has passed
+pub record Taken (S : List ℕ) (p : Cursor) : Type 0 where
+  pub due : isDue (kindHere S p) p ≡ true
+  pub sized : lengthOk (kindHere S p) (lengthAt S (p .at)) ≡ true
+  pub fits : lengthAt S (p .at) ≤ length S - p .at
+  pub room : isFull (kindHere S p) (p .held) ≡ false
+  pub fields : fieldsOk (kindHere S p) (bodyAt S (p .at)) ≡ true
+  pub new : isRepeated (kindHere S p) S (p .held) (bodyAt S (p .at)) ≡ false
 
 module _ (S : List ℕ) (p : Cursor) where
+  pub taken : cause S p ≡ 0 → Taken S p
+  unfolding cause
+  taken z =
+      let h = passed _ refl z in
+      let b = h .1 .1 .1 .1 in
+      record {
+        due = not-false _ (h .1 .0);
+        sized = not-false _ (h .1 .1 .0);
+        fits = ltb-false _ _ (h .1 .1 .1 .0);
+        room = b .0;
+        fields = not-false _ (b .1 .0);
+        new = b .1 .1 .0;
+      }
+
   -- the three ways of a turn
-  pub scan-end : (n : ℕ) → 0 < n → length S ≤ p .at → scan S n p ≡ ending S p
+  pub scan-end : (n : ℕ) → 0 < n → length S ≤ p .at → scan S n p ≡ ending S (p .held)
   unfolding scan
   scan-end zero h l = absurd (omega arith)
   scan-end (suc n) h l = chosen (here (le-leb _ _ l))
@@ -37,37 +63,19 @@ module _ (S : List ℕ) (p : Cursor) where
   scan-next zero h l z = absurd (omega arith)
   scan-next (suc n) h l z = let q : suc n - 1 ≡ n = omega arith in rw q (chosen (next (lt-leb _ _ l) (here (eq-eqb _ _ z))))
 
-  -- the place after a head, a group and a firm
-  pub after-1 : kindAt S (p .at) ≡ 1 → after S p ≡ record { at = p .at + lengthAt S (p .at); groups = p .groups; firms = p .firms; start = p .at + lengthAt S (p .at) }
-  unfolding after byKind
-  after-1 e = chosen (kind-1 e)
-
-  pub after-2 : kindAt S (p .at) ≡ 2 → after S p ≡ record { at = p .at + lengthAt S (p .at); groups = p .groups + 1; firms = p .firms; start = p .at + lengthAt S (p .at) }
-  unfolding after byKind
-  after-2 e = chosen (kind-2 e)
-
-  pub after-3 : kindAt S (p .at) ≡ 3 → after S p ≡ record { at = p .at + lengthAt S (p .at); groups = p .groups; firms = p .firms + 1; start = p .start }
-  unfolding after byKind
-  after-3 e = chosen (kind-3 e)
-
   -- a record that is not refused leads to a place further on, in bounds again
-  further : KindOf (kindAt S (p .at)) → isDue (kindAt S (p .at)) p ≡ true → lengthOk (kindAt S (p .at)) (lengthAt S (p .at)) ≡ true
-      → lengthAt S (p .at) ≤ length S - p .at → isFull (kindAt S (p .at)) p ≡ false → p .at < length S → Fine S p
-      → Fine S (after S p) × (p .at < after S p .at)
-  unfolding isDue lengthOk isFull byKind
-  further (head e) due sized fits full l fine =
-      rw (after-1 e)
-      (omega (arith, length-bounds (kindAt S (p .at)) (lengthAt S (p .at)) sized, eqb-true (p .at) 0 (sym (chosen (kind-1 e)) ∙ due), eqb-true (lengthAt S (p .at)) 10 (sym (chosen (kind-1 e)) ∙ sized)))
-  further (group e) due sized fits full l fine =
-      let room = eqb-false (p .groups) 32 (sym (chosen (kind-2 e)) ∙ full) in
-      rw (after-2 e) (omega (arith, length-bounds (kindAt S (p .at)) (lengthAt S (p .at)) sized, room))
-  further (firm e) due sized fits full l fine =
-      let room = eqb-false (p .firms) 200 (sym (chosen (kind-3 e)) ∙ full) in
-      rw (after-3 e) (omega (arith, length-bounds (kindAt S (p .at)) (lengthAt S (p .at)) sized, room, eqb-true (lengthAt S (p .at)) 7 (sym (chosen (kind-3 e)) ∙ sized)))
-  further (other a b c) due sized fits full l fine = absurd (false≢true (sym (chosen (kind-other a b c)) ∙ sized))
+  further : (k : Kind) → isDue k p ≡ true → lengthOk k (lengthAt S (p .at)) ≡ true → lengthAt S (p .at) ≤ length S - p .at
+      → isFull k (p .held) ≡ false → p .at < length S → Fine S p
+      → Fine S (record { at = p .at + lengthAt S (p .at); held = grown k (bodyAt S (p .at)) (p .at + lengthAt S (p .at)) (p .held) })
+  unfolding isDue lengthOk isFull grown
+  further kind.Head due sized fits full l fine = omega (arith, eqb-true (p .at) 0 due, eqb-true (lengthAt S (p .at)) headSize sized)
+  further kind.Group due sized fits full l fine =
+      omega (arith, length-bounds kind.Group (lengthAt S (p .at)) sized, eqb-false (p .held .groups) 32 full)
+  further kind.Firm due sized fits full l fine =
+      omega (arith, eqb-true (lengthAt S (p .at)) firmSize sized, eqb-false (p .held .firms) 200 full)
+  further kind.Other due sized fits full l fine = absurd (false≢true due)
 
   pub accepted : p .at < length S → cause S p ≡ 0 → Fine S p → Fine S (after S p) × (p .at < after S p .at)
-  unfolding cause
   accepted l z fine =
-      let h = passed _ refl z in
-      further (kindOf _) (not-false _ (h .1 .0)) (not-false _ (h .1 .1 .0)) (ltb-false _ _ (h .1 .1 .1 .0)) (h .1 .1 .1 .1 .0) l fine
+      let t = taken z in
+      (further _ (t .due) (t .sized) (t .fits) (t .room) l fine, omega (arith, length-bounds _ _ (t .sized)))

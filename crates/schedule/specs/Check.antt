@@ -1,113 +1,130 @@
--- The check of a whole schedule, record by record (document 01, "Records" and "Numbers of refusal").
+-- The check of a whole schedule, record by record (document 01, "Records" and "Numbers of refusal"). S is the schedule, p the place of a record: `Cursor`
+-- is the struct of src/scan.rt, the record's offset and what the records before it hold. B is the record's body.
 -- Assumes nothing.
 use Prim.Native.Nat.{ℕ, zero, suc, _+_, _-_, _%_}
-use mathlib.Core.Bool.{Bool, false, true, cond, not, _&&_}
-use mathlib.Core.List.{List, [], _∷_}
-use lib.Dec.{leb, ltb, eqb}
-use lib.ListN.{length, getD}
-use Rattle.wire.specs.Bytes.{u16At, u32At}
+use mathlib.Core.Bool.{Bool, true, false, cond, not, _&&_}
+use mathlib.Core.List.{List, [], _∷_, _++_}
+use lib.Dec.{eqb, leb, ltb}
+use lib.ListN.{length}
 use Rattle.wire.specs.Choose.{choose, within}
-use Rattle.schedule.specs.Fields.{headOk, groupOk, firmOk}
-use Rattle.schedule.specs.Lookup.{lengthAt, kindAt, bodyAt, groupListed, firmListed}
+use Rattle.records.specs.Bodies.{lengthAt, kindAt, bodyAt, headSize, leastGroup, largestGroup, firmSize}
+use Rattle.records.specs.Fields.{headFields, headOk, groupFields, groupOk, firmFields, firmOk}
+use Rattle.schedule.specs.Outcome.{Outcome, refused, good}
+use Rattle.schedule.specs.Lookup.{groupListed, firmListed}
+use Rattle.schedule.specs.declared.lookup.Layout.{Layout}
+use Rattle.schedule.specs.declared.scan.Kind.{Kind}
+use Rattle.schedule.specs.declared.scan.Kind.the-variants as kind
 use Rattle.schedule.specs.declared.scan.Cursor.{Cursor}
-use Rattle.schedule.specs.declared.scan.Layout.{Layout}
 use Rattle.schedule.specs.declared.scan.Checked.{Checked}
 use Rattle.schedule.specs.declared.scan.Checked.the-variants as checked
 
--- one answer for heads (kind 1), one for groups (2), one for firms (3), one for any other kind
-unfoldable pub byKind : {A : Type 0} → (kind : ℕ) → A → A → A → A → A
-byKind kind head group firm other = choose ((eqb kind 1, head) ∷ (eqb kind 2, group) ∷ (eqb kind 3, firm) ∷ []) other
+-- Records: kind 1, head; kind 2, group; kind 3, firm
+unfoldable pub kindOf : (number : ℕ) → Kind
+kindOf number = choose ((eqb number 1, kind.Head) ∷ (eqb number 2, kind.Group) ∷ (eqb number 3, kind.Firm) ∷ []) kind.Other
 
 -- Records: one head, 1 to 32 groups, 1 to 200 firms, in that order; Numbers of refusal, 2: a firm is due only after a group
-unfoldable pub isDue : (kind : ℕ) → Cursor → Bool
-isDue kind p = byKind kind (eqb (p .at) 0) (not (eqb (p .at) 0) && eqb (p .firms) 0) (not (eqb (p .groups) 0)) false
+unfoldable pub isDue : Kind → Cursor → Bool
+isDue kind.Head p = eqb (p .at) 0
+isDue kind.Group p = not (eqb (p .at) 0) && eqb (p .held .firms) 0
+isDue kind.Firm p = not (eqb (p .held .groups) 0)
+isDue kind.Other p = false
 
 -- Records: head 10 bytes; group 16 + 2n, n 1 to 64; firm 7 bytes
-unfoldable pub lengthOk : (kind len : ℕ) → Bool
-lengthOk kind len = byKind kind (eqb len 10) (within 18 144 len && eqb (len % 2) 0) (eqb len 7) false
+unfoldable pub lengthOk : Kind → (len : ℕ) → Bool
+lengthOk kind.Head len = eqb len headSize
+lengthOk kind.Group len = within leastGroup largestGroup len && eqb (len % 2) 0
+lengthOk kind.Firm len = eqb len firmSize
+lengthOk kind.Other len = false
 
 -- Numbers of refusal, 7: too many, as 32 groups or 200 firms stand before it
-unfoldable pub isFull : (kind : ℕ) → Cursor → Bool
-isFull kind p = byKind kind false (eqb (p .groups) 32) (eqb (p .firms) 200) false
+unfoldable pub isFull : Kind → Layout → Bool
+isFull kind.Head l = false
+isFull kind.Group l = eqb (l .groups) 32
+isFull kind.Firm l = eqb (l .firms) 200
+isFull kind.Other l = false
 
 -- Numbers of refusal, 5: every field is in order
-unfoldable pub fieldsOk : (kind : ℕ) → List ℕ → Bool
-fieldsOk kind B = byKind kind (headOk B) (groupOk B) (firmOk B) true
+unfoldable pub fieldsOk : Kind → (B : List ℕ) → Bool
+fieldsOk kind.Head B = headOk (headFields B)
+fieldsOk kind.Group B = groupOk B
+fieldsOk kind.Firm B = firmOk (firmFields B)
+fieldsOk kind.Other B = true
 
 -- Numbers of refusal, 6: a record of its kind before it has its code
-unfoldable pub isRepeated : (kind : ℕ) → List ℕ → Cursor → List ℕ → Bool
-isRepeated kind S p B =
-    byKind kind
-    false
-    (groupListed S (p .groups) (getD B 0 0) (getD B 1 0))
-    (firmListed S (p .start) (p .firms) B)
-    false
+unfoldable pub isRepeated : Kind → (S : List ℕ) → Layout → (B : List ℕ) → Bool
+isRepeated kind.Head S l B = false
+isRepeated kind.Group S l B = groupListed S l (groupFields B .first) (groupFields B .second)
+isRepeated kind.Firm S l B = firmListed S l B
+isRepeated kind.Other S l B = false
 
--- Numbers of refusal, record by record: four bytes present (1), 2, 3, length inside the schedule (1), 7, 5, 6
-abbrev pub causes : List ℕ → Cursor → List (Bool × ℕ)
-causes S p =
-    (ltb (length S - p .at) 4, 1)
-    ∷ (not (isDue (kindAt S (p .at)) p), 2)
-    ∷ (not (lengthOk (kindAt S (p .at)) (lengthAt S (p .at))), 3)
-    ∷ (ltb (length S - p .at) (lengthAt S (p .at)), 1)
-    ∷ (isFull (kindAt S (p .at)) p, 7)
-    ∷ (not (fieldsOk (kindAt S (p .at)) (bodyAt S (p .at))), 5)
-    ∷ (isRepeated (kindAt S (p .at)) S p (bodyAt S (p .at)), 6)
-    ∷ []
+module _ (S : List ℕ) (p : Cursor) where
+  -- the kind of the record at p
+  abbrev pub kindHere : Kind
+  kindHere = kindOf (kindAt S (p .at))
 
--- the first of them that refuses the record at p, 0 where none does
-unfoldable pub cause : List ℕ → Cursor → ℕ
-cause S p = choose (causes S p) 0
+  -- Numbers of refusal, record by record: four bytes present (1), 2, 3, length inside the schedule (1)
+  abbrev pub headerCauses : List (Bool × ℕ)
+  headerCauses =
+      (ltb (length S - p .at) 4, 1)
+      ∷ (not (isDue kindHere p), 2)
+      ∷ (not (lengthOk kindHere (lengthAt S (p .at))), 3)
+      ∷ (ltb (length S - p .at) (lengthAt S (p .at)), 1)
+      ∷ []
 
--- the place after the record at p; firms start where the last group ends
-unfoldable pub after : List ℕ → Cursor → Cursor
+  -- then 7, 5, 6
+  abbrev pub bodyCauses : List (Bool × ℕ)
+  bodyCauses =
+      (isFull kindHere (p .held), 7)
+      ∷ (not (fieldsOk kindHere (bodyAt S (p .at))), 5)
+      ∷ (isRepeated kindHere S (p .held) (bodyAt S (p .at)), 6)
+      ∷ []
+
+  -- the first of them that refuses the record at p, 0 where none does
+  unfoldable pub cause : ℕ
+  cause = choose (headerCauses ++ bodyCauses) 0
+
+-- what a schedule holds with one record more, which ends at `next`: the month and the closed days are the head's; the first group stands after the
+-- head, the first firm after the last group
+unfoldable pub grown : Kind → (B : List ℕ) → (next : ℕ) → Layout → Layout
+grown kind.Head B next l =
+    record { month = headFields B .month; closed = headFields B .closed; first = next; groups = l .groups; start = next; firms = l .firms }
+grown kind.Group B next l =
+    record { month = l .month; closed = l .closed; first = l .first; groups = l .groups + 1; start = next; firms = l .firms }
+grown kind.Firm B next l =
+    record { month = l .month; closed = l .closed; first = l .first; groups = l .groups; start = l .start; firms = l .firms + 1 }
+grown kind.Other B next l = l
+
+-- the place after the record at p
+abbrev pub after : (S : List ℕ) → Cursor → Cursor
 after S p =
     let next = p .at + lengthAt S (p .at) in
-    byKind (kindAt S (p .at))
-    (record { at = next; groups = p .groups; firms = p .firms; start = next })
-    (record { at = next; groups = p .groups + 1; firms = p .firms; start = next })
-    (record { at = next; groups = p .groups; firms = p .firms + 1; start = p .start })
-    p
+    record { at = next; held = grown (kindHere S p) (bodyAt S (p .at)) next (p .held) }
 
--- Numbers of refusal: what a call comes to, the number and the offset of a refusal, or what it answers
-pub data Outcome (A : Type 0) : Type 0 where
-  refused : (number offset : ℕ) → Outcome A
-  good : A → Outcome A
+-- Numbers of refusal, at the end 4, with the schedule's length: a firm comes after a group and a head, so it is missing where one of the three is
+unfoldable pub ending : (S : List ℕ) → Layout → Outcome Layout
+ending S l = cond (eqb (l .firms) 0) (refused 4 (length S)) (good l)
 
--- a refusal stands, and what is good goes on to f
-abbrev pub follow : {A B : Type 0} → Outcome A → (A → Outcome B) → Outcome B
-follow (refused number offset) f = refused number offset
-follow (good a) f = f a
+-- Numbers of refusal: the records from p on, at most `fuel` of them; the answer is the number and the record's offset
+unfoldable pub scan : (S : List ℕ) → (fuel : ℕ) → Cursor → Outcome Layout
+scan S zero p = refused 0 0
+scan S (suc fuel) p =
+    choose
+    ((leb (length S) (p .at), ending S (p .held)) ∷ (eqb (cause S p) 0, scan S fuel (after S p)) ∷ [])
+    (refused (cause S p) (p .at))
 
--- what f makes of what is good, and b where there was a refusal
-abbrev pub given : {A B : Type 0} → Outcome A → B → (A → B) → B
-given (refused number offset) b f = b
-given (good a) b f = f a
+-- nothing was read yet
+abbrev pub nothing : Layout
+nothing = record { month = 0; closed = 0; first = 0; groups = 0; start = 0; firms = 0 }
+
+-- where the check starts
+abbrev pub begin : Cursor
+begin = record { at = 0; held = nothing }
+
+-- the check of a schedule; each accepted record has a byte, so its length is fuel enough
+unfoldable pub checkOf : (S : List ℕ) → Outcome Layout
+checkOf S = scan S (length S + 1) begin
 
 -- what the check's answer means: a refusal, or what the schedule holds
 abbrev pub meaning : Checked → Outcome Layout
 meaning (checked.Refused number offset) = refused number offset
 meaning (checked.Good l) = good l
-
--- Numbers of refusal, at the end 4, with the schedule's length: a firm comes after a group and a head, so it is missing where one of the three is
-unfoldable pub ending : List ℕ → Cursor → Outcome Layout
-ending S p =
-    cond (eqb (p .firms) 0)
-    (refused 4 (length S))
-    (good (record { month = u16At S 4; closed = u32At S 6; groups = p .groups; firms = p .firms; start = p .start }))
-
--- Numbers of refusal: the records from p on, at most `fuel` of them; the answer is the number and the record's offset
-unfoldable pub scan : List ℕ → (fuel : ℕ) → Cursor → Outcome Layout
-scan S zero p = refused 0 0
-scan S (suc fuel) p =
-    choose
-    ((leb (length S) (p .at), ending S p) ∷ (eqb (cause S p) 0, scan S fuel (after S p)) ∷ [])
-    (refused (cause S p) (p .at))
-
--- where the check starts
-abbrev pub begin : Cursor
-begin = record { at = 0; groups = 0; firms = 0; start = 0 }
-
--- the check of a schedule; each accepted record has a byte, so its length is fuel enough
-unfoldable pub checkOf : List ℕ → Outcome Layout
-checkOf S = scan S (length S + 1) begin

@@ -1,6 +1,4 @@
-pub mod Calendar
-pub mod Fields
+pub mod Outcome
 pub mod Lookup
-pub mod Counted
 pub mod Check
 pub mod Good

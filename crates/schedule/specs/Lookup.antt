@@ -1,108 +1,90 @@
--- Where the records of a schedule stand, and which of its groups and firms has a code (document 01, "Records").
+-- Where the groups and firms of a schedule stand, and which of them has a code (document 01, "Records"). S is the schedule, l what it holds.
+-- `Layout` is the struct of src/lookup.rt: month, days not in effect, how many groups and firms, and where the first of each stands.
 -- Assumes nothing.
-use Prim.Native.Nat.{ℕ, zero, suc, _+_, _-_, _*_}
+use Prim.Native.Nat.{ℕ, zero, suc, _+_, _*_}
 use mathlib.Core.Bool.{Bool, cond}
 use mathlib.Core.List.{List, [], _∷_}
 use lib.Dec.{eqb}
-use lib.ListN.{length, getD, take, drop}
-use Rattle.wire.specs.Bytes.{u16At}
 use Rattle.wire.specs.Choose.{all, seek, some}
-use Rattle.schedule.specs.Fields.{groupFields}
-use Rattle.schedule.specs.declared.fields.Group.{Group}
+use Rattle.records.specs.Bodies.{lengthAt, bodyAt, firmSize}
+use Rattle.records.specs.Fields.{groupFields, firmFields, hasCode}
+use Rattle.records.specs.declared.fields.Group.{Group}
+use Rattle.schedule.specs.declared.lookup.Layout.{Layout}
 use Rattle.schedule.specs.declared.lookup.FoundGroup.{FoundGroup}
 use Rattle.schedule.specs.declared.lookup.FoundGroup.the-variants as group
 use Rattle.schedule.specs.declared.lookup.FoundFirm.{FoundFirm}
 use Rattle.schedule.specs.declared.lookup.FoundFirm.the-variants as firm
 
--- Records: length (two bytes, of the whole record), kind (two bytes), body
-abbrev pub lengthAt : List ℕ → ℕ → ℕ
-lengthAt S at = u16At S at
+-- where group i stands, the first at `first`: each other after the one before
+unfoldable pub groupStart : (S : List ℕ) → (first i : ℕ) → ℕ
+groupStart S first zero = first
+groupStart S first (suc i) = groupStart S first i + lengthAt S (groupStart S first i)
 
--- the kind of the record at a place
-abbrev pub kindAt : List ℕ → ℕ → ℕ
-kindAt S at = u16At S (at + 2)
-
--- its body: the bytes after length and kind, up to its length or the schedule's end
-abbrev pub bodyAt : List ℕ → ℕ → List ℕ
-bodyAt S at = take (lengthAt S at - 4) (drop (at + 4) S)
-
--- where group i stands: the first after the head, each other after the one before
-unfoldable pub groupStart : List ℕ → ℕ → ℕ
-groupStart S zero = 10
-groupStart S (suc i) = groupStart S i + lengthAt S (groupStart S i)
-
--- where firm i stands, of those that start at `start`, seven bytes each
+-- where firm i stands, the first at `start`
 abbrev pub firmStart : (start i : ℕ) → ℕ
-firmStart start i = start + 7 * i
+firmStart start i = start + firmSize * i
 
--- the record at `at` has the group code of these two letters
-abbrev pub groupHas : List ℕ → (at first second : ℕ) → Bool
-groupHas S at first second = all (eqb (getD S (at + 4) 0) first ∷ eqb (getD S (at + 5) 0) second ∷ [])
+-- the record at `at` has the group code of the letters x and y
+abbrev pub groupHas : (S : List ℕ) → (at x y : ℕ) → Bool
+groupHas S at x y = all (eqb (groupFields (bodyAt S at) .first) x ∷ eqb (groupFields (bodyAt S at) .second) y ∷ [])
 
--- the record at `at` has the firm code C; a code of another length is no firm's
-abbrev pub firmHas : List ℕ → (at : ℕ) → List ℕ → Bool
-firmHas S at C =
-    all
-    (eqb (length C) 3
-    ∷ eqb (getD S (at + 4) 0) (getD C 0 0)
-    ∷ eqb (getD S (at + 5) 0) (getD C 1 0)
-    ∷ eqb (getD S (at + 6) 0) (getD C 2 0)
-    ∷ [])
-
--- group i has the code
-unfoldable pub groupIs : List ℕ → (first second i : ℕ) → Bool
-groupIs S first second i = groupHas S (groupStart S i) first second
+-- group i has that code
+unfoldable pub groupIs : (S : List ℕ) → (first x y i : ℕ) → Bool
+groupIs S first x y i = groupHas S (groupStart S first i) x y
 
 -- firm i has the code C
-unfoldable pub firmIs : List ℕ → (start : ℕ) → List ℕ → (i : ℕ) → Bool
-firmIs S start C i = firmHas S (firmStart start i) C
-
--- one of n groups has the code
-unfoldable pub groupListed : List ℕ → (n first second : ℕ) → Bool
-groupListed S n first second = some n (groupIs S first second)
-
--- one of n firms has the code C
-unfoldable pub firmListed : List ℕ → (start n : ℕ) → List ℕ → Bool
-firmListed S start n C = some n (firmIs S start C)
+unfoldable pub firmIs : (S : List ℕ) → (start : ℕ) → (C : List ℕ) → (i : ℕ) → Bool
+firmIs S start C i = hasCode (firmFields (bodyAt S (firmStart start i))) C
 
 -- what a search by code finds: where it is listed, or that it is unlisted
 pub data Found (A : Type 0) : Type 0 where
   found : A → Found A
   unlisted : Found A
 
--- a group that was found: its place, its record's offset and its fields
+-- a group that was found: its place, and its record's offset
 pub record GroupPlace : Type 0 where
   pub index : ℕ
   pub offset : ℕ
-  pub fields : Group
 
--- the fields of group i
-abbrev pub groupAt : List ℕ → (i : ℕ) → Group
-groupAt S i = groupFields (bodyAt S (groupStart S i))
+module _ (S : List ℕ) (l : Layout) where
+  -- the fields of group g, from 0
+  abbrev pub groupAt : (g : ℕ) → Group
+  groupAt g = groupFields (bodyAt S (groupStart S (l .first) g))
 
--- group i as it is found
-abbrev pub groupPlace : List ℕ → (i : ℕ) → GroupPlace
-groupPlace S i = record { index = i; offset = groupStart S i; fields = groupAt S i }
+  -- one of the groups has the code
+  unfoldable pub groupListed : (x y : ℕ) → Bool
+  groupListed x y = some (l .groups) (groupIs S (l .first) x y)
 
--- the group with a code, among the first n
-unfoldable pub groupFound : List ℕ → (n first second : ℕ) → Found GroupPlace
-groupFound S n first second =
-    cond (groupListed S n first second) (found (groupPlace S (seek 0 n (groupIs S first second)))) unlisted
+  -- the place of the first that has it, from 0; the number of groups, where it is unlisted
+  abbrev pub groupPlace : (x y : ℕ) → ℕ
+  groupPlace x y = seek 0 (l .groups) (groupIs S (l .first) x y)
 
--- what the search's answer means
+  -- group g as it is found
+  abbrev pub groupFoundAt : (g : ℕ) → GroupPlace
+  groupFoundAt g = record { index = g; offset = groupStart S (l .first) g }
+
+  -- what a search for a group's code finds
+  unfoldable pub groupFound : (x y : ℕ) → Found GroupPlace
+  groupFound x y = cond (groupListed x y) (found (groupFoundAt (groupPlace x y))) unlisted
+
+  -- one of the firms has the code C
+  unfoldable pub firmListed : (C : List ℕ) → Bool
+  firmListed C = some (l .firms) (firmIs S (l .start) C)
+
+  -- the place of the first that has it, from 0; the number of firms, where it is unlisted
+  abbrev pub firmPlace : (C : List ℕ) → ℕ
+  firmPlace C = seek 0 (l .firms) (firmIs S (l .start) C)
+
+  -- what a search for a firm's code finds
+  unfoldable pub firmFound : (C : List ℕ) → Found ℕ
+  firmFound C = cond (firmListed C) (found (firmPlace C)) unlisted
+
+-- what the search's answer means; each caller gives "unlisted" its own number: 15 for a record's group
 abbrev pub groupMeaning : FoundGroup → Found GroupPlace
-groupMeaning (group.At i o g) = found (record { index = i; offset = o; fields = g })
+groupMeaning (group.At i o) = found (record { index = i; offset = o })
 groupMeaning group.Nothing = unlisted
 
--- the place of the first firm with the code C, among n that start at `start`; n, where it is unlisted
-abbrev pub firmPlace : List ℕ → (start n : ℕ) → List ℕ → ℕ
-firmPlace S start n C = seek 0 n (firmIs S start C)
-
--- what a search for a firm's code finds
-unfoldable pub firmFound : List ℕ → (start n : ℕ) → List ℕ → Found ℕ
-firmFound S start n C = cond (firmListed S start n C) (found (firmPlace S start n C)) unlisted
-
--- what the search's answer means
+-- what the search's answer means: "unlisted" is 14 for a record's firm, 21 for a statement's
 abbrev pub firmMeaning : FoundFirm → Found ℕ
 firmMeaning (firm.At i) = found i
 firmMeaning firm.Nothing = unlisted

@@ -1,20 +1,31 @@
 // Where the groups and firms of a schedule stand, and which of them has a code.
-use crate::fields::Group;
-use crate::fields::group_fields;
-use wire::byte_at;
+use records::FIRM;
+use records::Firm;
+use records::Group;
+use records::body_at;
+use records::firm_fields;
+use records::group_fields;
+use records::has_code;
 use wire::u16_at;
 ghost use mathlib.Core.Path.{_≡_};
-ghost use Prim.Native.Nat.{_^_, _<_};
-ghost use Rattle.schedule.specs.Fields.{groupFields};
-ghost use Rattle.schedule.specs.Lookup.{bodyAt, groupHas, groupFound, groupMeaning, firmHas, firmFound, firmMeaning};
+ghost use Rattle.records.specs.Bodies.{bodyAt};
+ghost use Rattle.records.specs.Fields.{groupFields, firmFields};
+ghost use Rattle.schedule.specs.Lookup.{groupHas, groupFound, groupMeaning, firmFound, firmMeaning};
 
-// The group with a code: its place among the groups, its record's offset, and its fields.
+// What a good schedule holds, and where: the month's number, the days that are not in effect, the offset of the first group and how many
+// there are, the offset of the first firm and how many there are.
+pub struct Layout {
+    pub month: u16,
+    pub closed: u32,
+    pub first: u32,
+    pub groups: u8,
+    pub start: u32,
+    pub firms: u8,
+}
+
+// The group with a code: its place among the groups, and its record's offset.
 pub enum FoundGroup {
-    At {
-        index: usize,
-        offset: usize,
-        fields: Group,
-    },
+    At { index: usize, offset: usize },
     Nothing,
 }
 
@@ -24,27 +35,6 @@ pub enum FoundFirm {
     Nothing,
 }
 
-// The body of the record at a place, cut short at the schedule's end.
-pub(crate) fn body_at(s: &[u8], at: usize) -> &[u8]
-    ensures { λ r. ⌜ now r ≡ bodyAt (now (s .entry)) at ⌝ }
-{
-    if s.len() < 4 {
-        return &s[..0];
-    }
-    if s.len() - 4 < at {
-        return &s[..0];
-    }
-    let len = u16_at(s, at) as usize;
-    if len < 4 {
-        return &s[..0];
-    }
-    let start = at + 4;
-    if s.len() - at < len {
-        return &s[start..];
-    }
-    &s[start..at + len]
-}
-
 // The fields of the group whose record stands at a place.
 pub fn group_at(schedule: &[u8], at: usize) -> Group
     ensures { λ r. ⌜ r ≡ groupFields (bodyAt (now (schedule .entry)) at) ⌝ }
@@ -52,26 +42,25 @@ pub fn group_at(schedule: &[u8], at: usize) -> Group
     group_fields(body_at(schedule, at))
 }
 
-fn group_has(s: &[u8], at: usize, first: u8, second: u8) -> bool
-    requires { ⌜ at < 2 ^ 40 ⌝ }
-    ensures { λ r. ⌜ r ≡ groupHas (now (s .entry)) at first second ⌝ }
+fn group_has(schedule: &[u8], at: usize, x: u8, y: u8) -> bool
+    ensures { λ r. ⌜ r ≡ groupHas (now (schedule .entry)) at x y ⌝ }
 {
-    (byte_at(s, at + 4) == first) & (byte_at(s, at + 5) == second)
+    let g = group_at(schedule, at);
+    (g.first == x) & (g.second == y)
 }
 
-// The group with a code of two letters, among the first `groups` of the schedule.
-pub fn find_group(schedule: &[u8], groups: u8, first: u8, second: u8) -> FoundGroup
-    ensures { λ r. ⌜ groupMeaning r ≡ groupFound (now (schedule .entry)) groups first second ⌝ }
+// The group with a code of two letters.
+pub fn find_group(schedule: &[u8], l: Layout, x: u8, y: u8) -> FoundGroup
+    ensures { λ r. ⌜ groupMeaning r ≡ groupFound (now (schedule .entry)) l x y ⌝ }
 {
-    let n = groups as usize;
+    let n = l.groups as usize;
     let mut i: usize = 0;
-    let mut at: usize = 10;
+    let mut at = l.first as usize;
     while i < n {
-        if group_has(schedule, at, first, second) {
+        if group_has(schedule, at, x, y) {
             return FoundGroup::At {
                 index: i,
                 offset: at,
-                fields: group_at(schedule, at),
             };
         }
         at += u16_at(schedule, at) as usize;
@@ -80,25 +69,22 @@ pub fn find_group(schedule: &[u8], groups: u8, first: u8, second: u8) -> FoundGr
     FoundGroup::Nothing
 }
 
-fn firm_has(s: &[u8], at: usize, code: &[u8]) -> bool
-    requires { ⌜ at < 2 ^ 40 ⌝ }
-    ensures { λ r. ⌜ r ≡ firmHas (now (s .entry)) at (now (code .entry)) ⌝ }
+// The fields of the firm whose record stands at a place.
+pub fn firm_at(schedule: &[u8], at: usize) -> Firm
+    ensures { λ r. ⌜ r ≡ firmFields (bodyAt (now (schedule .entry)) at) ⌝ }
 {
-    (code.len() == 3)
-        & (byte_at(s, at + 4) == byte_at(code, 0))
-        & (byte_at(s, at + 5) == byte_at(code, 1))
-        & (byte_at(s, at + 6) == byte_at(code, 2))
+    firm_fields(body_at(schedule, at))
 }
 
-// The firm with a code, a slice of any length, among `firms` firms whose records start at `start`.
-pub fn find_firm(schedule: &[u8], start: u32, firms: u8, code: &[u8]) -> FoundFirm
-    ensures { λ r. ⌜ firmMeaning r ≡ firmFound (now (schedule .entry)) start firms (now (code .entry)) ⌝ }
+// The firm with a code, a slice of any length.
+pub fn find_firm(schedule: &[u8], l: Layout, code: &[u8]) -> FoundFirm
+    ensures { λ r. ⌜ firmMeaning r ≡ firmFound (now (schedule .entry)) l (now (code .entry)) ⌝ }
 {
-    let n = firms as usize;
-    let from = start as usize;
+    let n = l.firms as usize;
+    let start = l.start as usize;
     let mut i: usize = 0;
     while i < n {
-        if firm_has(schedule, from + 7 * i, code) {
+        if has_code(firm_at(schedule, start + FIRM * i), code) {
             return FoundFirm::At(i);
         }
         i += 1;

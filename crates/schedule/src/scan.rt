@@ -1,39 +1,41 @@
 // The check of a whole schedule, record by record.
-use crate::fields::FirmRead;
-use crate::fields::GroupRead;
-use crate::fields::HeadRead;
-use crate::fields::read_firm;
-use crate::fields::read_group;
-use crate::fields::read_head;
 use crate::lookup::FoundFirm;
 use crate::lookup::FoundGroup;
+use crate::lookup::Layout;
 use crate::lookup::find_firm;
 use crate::lookup::find_group;
-use wire::byte_at;
+use records::FIRM;
+use records::GROUP_LEAST;
+use records::GROUP_MOST;
+use records::HEAD;
+use records::body_at;
+use records::firm_fields;
+use records::firm_ok;
+use records::group_fields;
+use records::group_ok;
+use records::head_fields;
+use records::head_ok;
 use wire::u16_at;
-use wire::u32_at;
 ghost use mathlib.Core.Path.{_≡_};
-ghost use Prim.Native.Nat.{_^_, _≤_, _<_};
+ghost use Prim.Native.Nat.{_+_, _^_, _≤_, _<_};
 ghost use lib.ListN.{length};
+ghost use Rattle.wire.specs.Choose.{choose};
 ghost use Rattle.schedule.specs.Lookup.{groupListed, firmListed};
-ghost use Rattle.schedule.specs.Check.{isDue, lengthOk, isFull, fieldsOk, isRepeated, cause, after, meaning, checkOf};
+ghost use Rattle.schedule.specs.Check.{kindOf, isDue, lengthOk, isFull, fieldsOk, isRepeated};
+ghost use Rattle.schedule.specs.Check.{headerCauses, bodyCauses, cause, grown, after, meaning, checkOf};
 
-// Where the check stands: the next record's offset, how many groups and firms were read, and where the firms start.
-struct Cursor {
-    at: usize,
-    groups: u8,
-    firms: u8,
-    start: u32,
+// The kinds of a schedule's records.
+enum Kind {
+    Head,
+    Group,
+    Firm,
+    Other,
 }
 
-// What a good schedule holds, and where: the month's number, the days that are not in effect, how many groups and firms, and the offset of
-// the first firm. The first group stands at 10.
-pub struct Layout {
-    pub month: u16,
-    pub closed: u32,
-    pub groups: u8,
-    pub firms: u8,
-    pub start: u32,
+// Where the check stands: the next record's offset, and what the records before it hold.
+struct Cursor {
+    at: usize,
+    held: Layout,
 }
 
 pub enum Checked {
@@ -41,102 +43,110 @@ pub enum Checked {
     Good(Layout),
 }
 
-fn is_due(kind: u16, p: Cursor) -> bool
+fn kind_of(number: u16) -> Kind
+    ensures { λ r. ⌜ r ≡ kindOf number ⌝ }
+{
+    if number == 1 {
+        return Kind::Head;
+    }
+    if number == 2 {
+        return Kind::Group;
+    }
+    if number == 3 {
+        return Kind::Firm;
+    }
+    Kind::Other
+}
+
+fn is_due(kind: Kind, p: Cursor) -> bool
     ensures { λ r. ⌜ r ≡ isDue kind p ⌝ }
 {
     match kind {
-        1 => p.at == 0,
-        2 => (p.at != 0) & (p.firms == 0),
-        3 => p.groups != 0,
-        _ => false,
+        Kind::Head => p.at == 0,
+        Kind::Group => (p.at != 0) & (p.held.firms == 0),
+        Kind::Firm => p.held.groups != 0,
+        Kind::Other => false,
     }
 }
 
-fn length_ok(kind: u16, len: usize) -> bool
+fn length_ok(kind: Kind, len: usize) -> bool
     ensures { λ r. ⌜ r ≡ lengthOk kind len ⌝ }
 {
     match kind {
-        1 => len == 10,
-        2 => (18 <= len) & (len <= 144) & (len % 2 == 0),
-        3 => len == 7,
-        _ => false,
+        Kind::Head => len == HEAD,
+        Kind::Group => (GROUP_LEAST <= len) & (len <= GROUP_MOST) & (len % 2 == 0),
+        Kind::Firm => len == FIRM,
+        Kind::Other => false,
     }
 }
 
-fn is_full(kind: u16, p: Cursor) -> bool
-    ensures { λ r. ⌜ r ≡ isFull kind p ⌝ }
+fn is_full(kind: Kind, l: Layout) -> bool
+    ensures { λ r. ⌜ r ≡ isFull kind l ⌝ }
 {
     match kind {
-        1 => false,
-        2 => p.groups == 32,
-        3 => p.firms == 200,
-        _ => false,
+        Kind::Head => false,
+        Kind::Group => l.groups == 32,
+        Kind::Firm => l.firms == 200,
+        Kind::Other => false,
     }
 }
 
-fn fields_ok(kind: u16, body: &[u8]) -> bool
+fn fields_ok(kind: Kind, body: &[u8]) -> bool
     ensures { λ r. ⌜ r ≡ fieldsOk kind (now (body .entry)) ⌝ }
 {
     match kind {
-        1 => match read_head(body) {
-            HeadRead::Good(_) => true,
-            HeadRead::Bad => false,
-        },
-        2 => match read_group(body) {
-            GroupRead::Good(_) => true,
-            GroupRead::Bad => false,
-        },
-        3 => match read_firm(body) {
-            FirmRead::Good(_) => true,
-            FirmRead::Bad => false,
-        },
-        _ => true,
+        Kind::Head => head_ok(head_fields(body)),
+        Kind::Group => group_ok(body),
+        Kind::Firm => firm_ok(firm_fields(body)),
+        Kind::Other => true,
     }
 }
 
-fn group_listed(s: &[u8], groups: u8, first: u8, second: u8) -> bool
-    ensures { λ r. ⌜ r ≡ groupListed (now (s .entry)) groups first second ⌝ }
+fn group_listed(s: &[u8], l: Layout, x: u8, y: u8) -> bool
+    ensures { λ r. ⌜ r ≡ groupListed (now (s .entry)) l x y ⌝ }
 {
-    match find_group(s, groups, first, second) {
+    match find_group(s, l, x, y) {
         FoundGroup::At {
             index: _,
             offset: _,
-            fields: _,
         } => true,
         FoundGroup::Nothing => false,
     }
 }
 
-fn firm_listed(s: &[u8], start: u32, firms: u8, code: &[u8]) -> bool
-    ensures { λ r. ⌜ r ≡ firmListed (now (s .entry)) start firms (now (code .entry)) ⌝ }
+fn firm_listed(s: &[u8], l: Layout, code: &[u8]) -> bool
+    ensures { λ r. ⌜ r ≡ firmListed (now (s .entry)) l (now (code .entry)) ⌝ }
 {
-    match find_firm(s, start, firms, code) {
+    match find_firm(s, l, code) {
         FoundFirm::At(_) => true,
         FoundFirm::Nothing => false,
     }
 }
 
-fn is_repeated(kind: u16, s: &[u8], p: Cursor, body: &[u8]) -> bool
-    ensures { λ r. ⌜ r ≡ isRepeated kind (now (s .entry)) p (now (body .entry)) ⌝ }
+fn is_repeated(kind: Kind, s: &[u8], l: Layout, body: &[u8]) -> bool
+    ensures { λ r. ⌜ r ≡ isRepeated kind (now (s .entry)) l (now (body .entry)) ⌝ }
 {
     match kind {
-        1 => false,
-        2 => group_listed(s, p.groups, byte_at(body, 0), byte_at(body, 1)),
-        3 => firm_listed(s, p.start, p.firms, body),
-        _ => false,
+        Kind::Head => false,
+        Kind::Group => {
+            let g = group_fields(body);
+            group_listed(s, l, g.first, g.second)
+        }
+        Kind::Firm => firm_listed(s, l, body),
+        Kind::Other => false,
     }
 }
 
-// The number of the first cause that refuses the record at p, 0 where none does.
-fn cause_of(s: &[u8], p: Cursor) -> u8
+// The first of 1, 2 and 3 that refuses the record at p, 0 where none does.
+fn header_cause(s: &[u8], p: Cursor) -> u8
     requires { ⌜ p .at ≤ length (now s) ⌝ }
-    ensures { λ r. ⌜ r ≡ cause (now (s .entry)) p ⌝ }
+    ensures { λ r. ⌜ r ≡ choose (headerCauses (now (s .entry)) p) 0 ⌝ }
 {
     let at = p.at;
     if s.len() - at < 4 {
         return 1;
     }
-    let kind = u16_at(s, at + 2);
+    let kind = kind_of(u16_at(s, at + 2));
     if !is_due(kind, p) {
         return 2;
     }
@@ -147,48 +157,90 @@ fn cause_of(s: &[u8], p: Cursor) -> u8
     if s.len() - at < len {
         return 1;
     }
-    if is_full(kind, p) {
+    0
+}
+
+// The first of 7, 5 and 6 that refuses the record at p, 0 where none does.
+fn body_cause(s: &[u8], p: Cursor) -> u8
+    requires { ⌜ p .at + 4 ≤ length (now s) ⌝ }
+    ensures { λ r. ⌜ r ≡ choose (bodyCauses (now (s .entry)) p) 0 ⌝ }
+{
+    let at = p.at;
+    let l = p.held;
+    let kind = kind_of(u16_at(s, at + 2));
+    if is_full(kind, l) {
         return 7;
     }
-    let body = &s[at + 4..at + len];
+    let body = body_at(s, at);
     if !fields_ok(kind, body) {
         return 5;
     }
-    if is_repeated(kind, s, p, body) {
+    if is_repeated(kind, s, l, body) {
         return 6;
     }
     0
 }
 
+// The number of the first cause that refuses the record at p, 0 where none does.
+fn cause_of(s: &[u8], p: Cursor) -> u8
+    requires { ⌜ p .at ≤ length (now s) ⌝ }
+    ensures { λ r. ⌜ r ≡ cause (now (s .entry)) p ⌝ }
+{
+    let number = header_cause(s, p);
+    if number != 0 {
+        return number;
+    }
+    body_cause(s, p)
+}
+
+// What the schedule holds with one record more, which ends at `next`.
+fn with_record(kind: Kind, body: &[u8], next: usize, l: Layout) -> Layout
+    requires { ⌜ (next < 2 ^ 32) × (l .groups ≤ 32) × (l .firms ≤ 200) ⌝ }
+    ensures { λ r. ⌜ r ≡ grown kind (now (body .entry)) next l ⌝ }
+{
+    match kind {
+        Kind::Head => {
+            let head = head_fields(body);
+            Layout {
+                month: head.month,
+                closed: head.closed,
+                first: next as u32,
+                groups: l.groups,
+                start: next as u32,
+                firms: l.firms,
+            }
+        }
+        Kind::Group => Layout {
+            month: l.month,
+            closed: l.closed,
+            first: l.first,
+            groups: l.groups + 1,
+            start: next as u32,
+            firms: l.firms,
+        },
+        Kind::Firm => Layout {
+            month: l.month,
+            closed: l.closed,
+            first: l.first,
+            groups: l.groups,
+            start: l.start,
+            firms: l.firms + 1,
+        },
+        Kind::Other => l,
+    }
+}
+
 // The place after the record at p.
 fn next_record(s: &[u8], p: Cursor) -> Cursor
-    requires { ⌜ (p .at < 2 ^ 31) × (p .groups ≤ 32) × (p .firms ≤ 200) ⌝ }
+    requires { ⌜ (p .at < 2 ^ 31) × (p .held .groups ≤ 32) × (p .held .firms ≤ 200) ⌝ }
     ensures { λ r. ⌜ r ≡ after (now (s .entry)) p ⌝ }
 {
     let at = p.at;
+    let l = p.held;
     let next = at + u16_at(s, at) as usize;
-    let kind = u16_at(s, at + 2);
-    match kind {
-        1 => Cursor {
-            at: next,
-            groups: p.groups,
-            firms: p.firms,
-            start: next as u32,
-        },
-        2 => Cursor {
-            at: next,
-            groups: p.groups + 1,
-            firms: p.firms,
-            start: next as u32,
-        },
-        3 => Cursor {
-            at: next,
-            groups: p.groups,
-            firms: p.firms + 1,
-            start: p.start,
-        },
-        _ => p,
-    }
+    let kind = kind_of(u16_at(s, at + 2));
+    let held = with_record(kind, body_at(s, at), next, l);
+    Cursor { at: next, held }
 }
 
 // Checks a whole schedule: the first cause of refusal and its record's offset, or what the schedule holds.
@@ -197,9 +249,14 @@ pub fn check(schedule: &[u8]) -> Checked
 {
     let mut p = Cursor {
         at: 0,
-        groups: 0,
-        firms: 0,
-        start: 0,
+        held: Layout {
+            month: 0,
+            closed: 0,
+            first: 0,
+            groups: 0,
+            start: 0,
+            firms: 0,
+        },
     };
     while p.at < schedule.len() {
         let number = cause_of(schedule, p);
@@ -211,17 +268,12 @@ pub fn check(schedule: &[u8]) -> Checked
         }
         p = next_record(schedule, p);
     }
-    if p.firms == 0 {
+    let l = p.held;
+    if l.firms == 0 {
         return Checked::Refused {
             number: 4,
             offset: schedule.len(),
         };
     }
-    Checked::Good(Layout {
-        month: u16_at(schedule, 4),
-        closed: u32_at(schedule, 6),
-        groups: p.groups,
-        firms: p.firms,
-        start: p.start,
-    })
+    Checked::Good(l)
 }

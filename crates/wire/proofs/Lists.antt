@@ -93,7 +93,7 @@ module _ {A : Type 0} where
     joined-le i zero h = let e : i ≡ 0 = omega arith in rw e (le-refl 0)
     joined-le i (suc n) h =
         ⊎-elim (λ e. rw e (le-refl _))
-        (λ lt. le-trans (joined-le i n (omega arith)) (simp length-append (omega arith)))
+        (λ (lt : i < suc n). le-trans (joined-le i n (omega arith)) (simp length-append (omega arith)))
         (eq-or-lt-of-le h)
 
     -- what holds of a buffer xs with room for n places, when the lists of the places before i are over its front:

@@ -1,8 +1,33 @@
-// Little-endian numbers of a byte string, and the cut of a run of records. Every reader is total: past the end stand zeros.
+// Little-endian numbers of a byte string, the cut of a run of records, and small tests of numbers. Every reader is total: past the end
+// stand zeros.
 ghost use mathlib.Core.Path.{_≡_};
+ghost use Prim.Native.Nat.{_≤_, min};
 ghost use lib.ListN.{getD};
 ghost use Rattle.wire.specs.Bytes.{u16At, u32At};
+ghost use Rattle.wire.specs.Choose.{within};
 ghost use Rattle.wire.specs.Cut.{firstLength};
+ghost use Rattle.wire.specs.Sums.{bit};
+
+// 1 where a test holds, else 0.
+pub fn bit(test: bool) -> u8
+    ensures { λ r. ⌜ (r ≡ bit test) × (r ≤ 1) ⌝ }
+{
+    if test { 1 } else { 0 }
+}
+
+// The smaller of two numbers.
+pub fn least(a: usize, b: usize) -> usize
+    ensures { λ r. ⌜ r ≡ min a b ⌝ }
+{
+    if a < b { a } else { b }
+}
+
+// A number from lo to hi.
+pub fn within(lo: u32, hi: u32, x: u32) -> bool
+    ensures { λ r. ⌜ r ≡ within lo hi x ⌝ }
+{
+    (lo <= x) & (x <= hi)
+}
 
 // The byte at a place.
 pub fn byte_at(s: &[u8], at: usize) -> u8

@@ -1,9 +1,9 @@
--- Firm i stands 7 i bytes after the first, and the search from there has the same answer as from the first.
+-- Firm i stands so many firms' bytes after the first, and the search from there has the same answer as from the first.
 -- Assumes nothing.
 use Prim.Native.Nat.{_-_, _≤_}
-use mathlib.Core.Path.{_≡_, sym, _∙_}
-use borrow.Author.Needs.{needs}
+use mathlib.Core.Path.{_≡_, refl, sym, _∙_}
 use borrow.Author.Tests.{lt-ltb, le-ltb}
+use borrow.Author.Needs.{needs}
 use Rattle.wire.specs.Choose.{seek}
 use Rattle.wire.proofs.Choose.{seek-hit, seek-next, seek-end}
 use Rattle.schedule.specs.Lookup.{firmIs, firmListed, firmFound}
@@ -11,20 +11,25 @@ use Rattle.schedule.proofs.lookup.find_firm.Statement.{statement}
 use Rattle.schedule.proofs.lookup.find_firm.Tie as tie
 
 abbrev Inv-loop : tie.InvT-loop
-Inv-loop s start firms code n from i₀ i =
-    (i ≤ n) × (seek 0 n (firmIs s start code) ≡ seek i n (firmIs s start code))
+Inv-loop schedule code n start i₀ i = (i ≤ n) × (seek 0 n (firmIs schedule start code) ≡ seek i n (firmIs schedule start code))
 
 abbrev μ-loop : tie.MeasureT-loop
-μ-loop s start firms code n from i₀ i = n - i
+μ-loop schedule code n start i₀ i = n - i
 
 returns : tie.Need-returns Inv-loop μ-loop
 unfolding firmFound firmListed firmIs
-returns c = let here = c .before .before .before .loop .inv .1 ∙ seek-hit _ _ _ (c .before .before .loop-test .taken) (sym (c .before .firm-has .ensures) ∙ c .if1 .taken) in
-    simp (here, lt-ltb _ _ (c .before .before .loop-test .taken))
+returns c =
+    let l = c .before .before .before .before .loop in
+    let t = c .before .before .before .loop-test .taken in
+    let has = rw (c .before .before .firm-at .ensures) at (sym (c .before .has-code .ensures) ∙ c .if1 .taken) in
+    simp (l .inv .1 ∙ seek-hit _ _ _ t has, lt-ltb _ _ t)
 
 loop-again : tie.Need-loop-again Inv-loop μ-loop
 unfolding firmIs
-loop-again c = (search needs, c .before .before .before .loop .inv .1 ∙ seek-next _ _ _ (c .before .before .loop-test .taken) (sym (c .before .firm-has .ensures) ∙ c .if1 .left))
+loop-again c =
+    let l = c .before .before .before .before .loop in
+    let hasnt = rw (c .before .before .firm-at .ensures) at (sym (c .before .has-code .ensures) ∙ c .if1 .left) in
+    (search needs, l .inv .1 ∙ seek-next _ _ _ (c .before .before .before .loop-test .taken) hasnt)
 
 returns-2 : tie.Need-returns-2 Inv-loop μ-loop
 unfolding firmFound firmListed
@@ -39,6 +44,9 @@ find-firm-spec =
     (λ c. search needs)
     (λ c. search needs)
     (λ c. search needs)
+    (λ c. search needs)
+    (λ c. search needs)
+    (λ c κs. search needs)
     (λ c κs. search needs)
     returns
     (λ c. search needs)

@@ -1,27 +1,27 @@
--- Each kind has its row of the definition, and any other kind has no length.
+-- Each kind has its row of the definition.
 -- Assumes nothing.
-use mathlib.Core.Path.{sym}
-use Rattle.wire.proofs.Choose.{chosen}
-use Rattle.schedule.specs.Check.{byKind, lengthOk}
-use Rattle.schedule.proofs.Laws.{kind-1, kind-2, kind-3, kind-other}
+use borrow.Author.Needs.{needs}
+use Rattle.schedule.specs.Check.{lengthOk}
 use Rattle.schedule.proofs.scan.length_ok.Statement.{statement}
 use Rattle.schedule.proofs.scan.length_ok.Tie as tie
 
 returns : tie.Need-returns
-unfolding lengthOk byKind
-returns c = sym (chosen (kind-1 (c .match .keys1)))
+unfolding lengthOk
+returns c = rw (c .enum-told .given .1)
 
 returns-2 : tie.Need-returns-2
-unfolding lengthOk byKind
-returns-2 c = sym (chosen (kind-2 (c .match .keys2)))
+unfolding lengthOk
+returns-2 c = rw (c .enum-told2 .given .1)
 
 returns-3 : tie.Need-returns-3
-unfolding lengthOk byKind
-returns-3 c = sym (chosen (kind-3 (c .match .keys3)))
+unfolding lengthOk
+returns-3 c = rw (c .enum-told3 .given .1)
 
 returns-4 : tie.Need-returns-4
-unfolding lengthOk byKind
-returns-4 c = sym (chosen (kind-other (c .match .rest .0 .0 .1) (c .match .rest .0 .1) (c .match .rest .1)))
+unfolding lengthOk
+returns-4 c = rw (c .enum-told4 .given .1)
 
 pub length-ok-spec : {M : Type 1} → statement M
-length-ok-spec = tie.close (tie.spec returns returns-2 returns-3 returns-4)
+length-ok-spec =
+    tie.close
+    (tie.spec (λ c. search needs) (λ c. search needs) (λ c. search needs) (λ c. search needs) returns returns-2 returns-3 returns-4)

@@ -1,0 +1,34 @@
+// Where a record's body stands, and the lengths of a schedule's records.
+use wire::u16_at;
+ghost use mathlib.Core.Path.{_≡_};
+ghost use Rattle.records.specs.Bodies.{bodyAt};
+
+// The bytes of a head, of the smallest and the largest group, and of a firm.
+pub const HEAD: usize = 10;
+
+pub const GROUP_LEAST: usize = 18;
+
+pub const GROUP_MOST: usize = 144;
+
+pub const FIRM: usize = 7;
+
+// The body of the record at a place, cut short at the end of the bytes.
+pub fn body_at(s: &[u8], at: usize) -> &[u8]
+    ensures { λ r. ⌜ now r ≡ bodyAt (now (s .entry)) at ⌝ }
+{
+    if s.len() < 4 {
+        return &s[..0];
+    }
+    if s.len() - 4 < at {
+        return &s[..0];
+    }
+    let len = u16_at(s, at) as usize;
+    if len < 4 {
+        return &s[..0];
+    }
+    let start = at + 4;
+    if s.len() - at < len {
+        return &s[start..];
+    }
+    &s[start..at + len]
+}
