@@ -1,4 +1,5 @@
--- From how the schedule takes a record, and what adding to its cell came to, to the post's answer and the book after it.
+-- From how the schedule takes a record, and what adding to its cell came to, to the post's answer and the book after it: the table of
+-- causes is one after another, so the first that refuses decides, and 18 is asked where none did.
 -- Assumes nothing.
 use Prim.Native.Nat.{ℕ}
 use mathlib.Core.Bool.{Bool, true, false, cond, not, and-false}
@@ -11,13 +12,13 @@ use borrow.Author.Tests.{ne-eqb}
 use Rattle.wire.specs.Choose.{choose}
 use Rattle.wire.proofs.Choose.{passed, choose-first, choose-second}
 use Rattle.rules.specs.Verdict.{fits}
-use Rattle.rules.specs.declared.Totals.{Totals}
-use Rattle.schedule.specs.Check.{refused, good}
-use Rattle.schedule.specs.declared.scan.Layout.{Layout}
+use Rattle.schedule.specs.Outcome.{refused, good}
+use Rattle.schedule.specs.declared.lookup.Layout.{Layout}
 use Rattle.book.specs.Activity.{totalsOf}
-use Rattle.book.specs.Book.{cellAt, withCell, checkBook}
-use Rattle.book.specs.Post.{plus, indexOf, recordCauses, limitCause, cause, counted, PostIs}
+use Rattle.book.specs.Book.{cellAt, withCell, grown, checkBook}
+use Rattle.book.specs.Post.{indexOf, recordCauses, limitCause, postCause, counted, PostIs}
 use Rattle.book.specs.Filing.{AddIs, Stopped, Filable, FiledIs}
+use Rattle.book.specs.declared.cells.Cell.{Cell}
 use Rattle.book.specs.declared.filing.Filed.{Filed}
 use Rattle.book.specs.declared.posting.Posted.{Posted}
 use Rattle.book.specs.declared.filing.Filed.the-variants as filed
@@ -31,16 +32,17 @@ module _ (S : List ℕ) (l : Layout) (R : List ℕ) where
   filed-same cs ds e (filed.At i) h = (record { none = sym e ∙ h .0 .none; counted = h .0 .counted }, h .1)
 
   -- 18 decides where none of 11 to 17 refuses the record
-  cause-limit : (t : Totals) → choose (recordCauses S l R) 0 ≡ 0 → cause S l t R ≡ choose (limitCause S l t R) 0
-  unfolding cause
-  cause-limit t e = choose-second (recordCauses S l R) (limitCause S l t R) (passed (recordCauses S l R) refl e)
+  cause-limit : (c : Cell) → choose (recordCauses S l R) 0 ≡ 0 → postCause S l c R ≡ choose (limitCause S l c R) 0
+  unfolding postCause
+  cause-limit c e = choose-second (recordCauses S l R) (limitCause S l c R) (passed (recordCauses S l R) refl e)
 
 module _ (S B R : List ℕ) {l : Layout} (e : checkBook S (length B) ≡ good l) where
   pub stopped : {n : ℕ} → Stopped S l R (recordCauses S l R) n → PostIs S B R (posted.Refused n 0) B
-  unfolding cause
+  unfolding postCause
   stopped {n} h =
       let some : n ≡ 0 → ⊥ = λ z. omega (arith, h .some) in
-      let q : cause S l (cellAt B (indexOf S l R)) R ≡ n = choose-first (recordCauses S l R) (limitCause S l (cellAt B (indexOf S l R)) R) (h .first) some in
+      let c = cellAt B (indexOf S l R) in
+      let q : postCause S l c R ≡ n = choose-first (recordCauses S l R) (limitCause S l c R) (h .first) some in
       record { answer = rw (e, q, ne-eqb n 0 some); book = rw (e, q, ne-eqb n 0 some, and-false) }
 
   pub passed-over : Filable S l R (recordCauses S l R) false → PostIs S B R posted.Outside B
@@ -53,12 +55,12 @@ module _ (S B R : List ℕ) {l : Layout} (e : checkBook S (length B) ≡ good l)
   pub added : {i : ℕ} {r : Posted} {B′ : List ℕ} → Filable S l R (recordCauses S l R) true → i ≡ indexOf S l R → AddIs B i (totalsOf R) r B′ → PostIs S B R r B′
   unfolding choose
   added {i} h p a =
-      let t = cellAt B (indexOf S l R) in
-      let q = cause-limit S l R t (h .none) in
-      let w = withCell B (indexOf S l R) (plus t (totalsOf R)) in
+      let c = cellAt B (indexOf S l R) in
+      let more = grown c (totalsOf R) in
+      let q = cause-limit S l R c (h .none) in
       record {
-        answer = rw p at (a .answer) ∙ rw (e, q, h .counted) (answer-limit (fits 1 (plus t (totalsOf R))));
-        book = rw p at (a .book) ∙ rw (e, q, h .counted) (book-limit (fits 1 (plus t (totalsOf R))) w);
+        answer = rw p at (a .answer) ∙ rw (e, q, h .counted) (answer-limit (fits 1 (more .totals)));
+        book = rw p at (a .book) ∙ rw (e, q, h .counted) (book-limit (fits 1 (more .totals)) (withCell B (indexOf S l R) more));
       }
     where
       answer-limit : (b : Bool) → cond b (good counted) (refused 18 0) ≡ cond (eqb (cond (not b) 18 0) 0) (good counted) (refused (cond (not b) 18 0) 0)

@@ -1,4 +1,5 @@
--- What the check of schedule and book tells.
+-- The check of schedule and book is 1 to 7 of the schedule, then 8 or good by the book's room: so a book that it takes has room for every
+-- cell of a good schedule.
 -- Assumes nothing.
 use Prim.Native.Nat.{ℕ, _≤_}
 use mathlib.Core.Bool.{Bool, true, false, cond}
@@ -6,8 +7,9 @@ use mathlib.Core.List.{List}
 use mathlib.Core.Path.{_≡_, refl, sym, _∙_}
 use lib.Dec.{ltb}
 use borrow.Author.Tests.{ltb-false, le-ltb}
-use Rattle.schedule.specs.Check.{Outcome, refused, good, checkOf}
-use Rattle.schedule.specs.declared.scan.Layout.{Layout}
+use Rattle.schedule.specs.Outcome.{Outcome, refused, good}
+use Rattle.schedule.specs.Check.{checkOf}
+use Rattle.schedule.specs.declared.lookup.Layout.{Layout}
 use Rattle.schedule.proofs.Good.{refused-good}
 use Rattle.book.specs.Book.{size, checkBook}
 

@@ -1,9 +1,9 @@
--- After any list of posts the book holds the accepted totals, and keeps its length and what lies past its cells; with the laws of accepted
--- totals this is specs/Laws.antt.
+-- After any list of posts the book holds the cells that the list makes, and keeps its length and what lies past its cells: a post changes
+-- its own cell as `accept` does, and no other. With the laws of accepted totals this is specs/Laws.antt.
 -- Assumes nothing.
 use Prim.Native.Nat.{ℕ, _+_, _-_, _*_, _≤_, _<_}
 use mathlib.Core.Bool.{Bool, true, false, cond, _&&_, false≢true}
-use mathlib.Core.List.{List, [], _∷_}
+use mathlib.Core.List.{List}
 use mathlib.Core.Path.{_≡_, refl, sym, _∙_, ap, fun-ext}
 use native.Mathlib.Omega.{arith}
 use lib.Dec.{eqb, ltb}
@@ -14,17 +14,19 @@ use Rattle.wire.specs.Lists.{table, over}
 use Rattle.wire.proofs.Bools.{and-left, and-right, range, in-range}
 use Rattle.wire.proofs.Folds.{fold-keeps, fold-kept}
 use Rattle.wire.proofs.Lists.{length-over, length-put, drop-put, length-table, table-over, table-behind}
-use Rattle.rules.specs.declared.Totals.{Totals}
-use Rattle.schedule.specs.Check.{Outcome, refused, good, follow, given, checkOf}
-use Rattle.schedule.specs.declared.scan.Layout.{Layout}
+use Rattle.rules.specs.Month.{Cells}
+use Rattle.schedule.specs.Outcome.{Outcome, refused, good, follow, given}
+use Rattle.schedule.specs.Check.{checkOf}
+use Rattle.schedule.specs.declared.lookup.Layout.{Layout}
 use Rattle.schedule.proofs.Good.{refused-good}
 use Rattle.book.specs.Activity.{day, totalsOf}
-use Rattle.book.specs.Book.{size, index, none, cellAt, withCell, cells, checkBook, openAnswer, openBook}
-use Rattle.book.specs.Post.{plus, firmOf, groupOf, indexOf, isCounted, cause, isAdded, outside, counted, answerUnder, bookUnder, postAnswer, postBook}
-use Rattle.book.specs.Accepted.{isAt, accept, accepted, own, posted}
+use Rattle.book.specs.Book.{width, size, index, cellAt, numbersOf, withCell, empty, grown, cells, checkBook, openAnswer, openBook}
+use Rattle.book.specs.Post.{firmPlaceOf, groupPlaceOf, indexOf, isCountedRecord, postCause, isAdded, outside, counted, answerUnder, bookUnder, postAnswer, postBook}
+use Rattle.book.specs.Accepted.{isAt, accept, acceptedCells, own, posted}
+use Rattle.book.specs.declared.cells.Cell.{Cell}
 use Rattle.book.specs.Laws.{Laws}
 use Rattle.book.proofs.Checked.{by-room, book-good}
-use Rattle.book.proofs.Places.{totals-eq, cell-same, cell-other, Placed, inside, same-cell}
+use Rattle.book.proofs.Places.{cell-eq, cell-same, cell-other, Placed, inside, same-cell}
 use Rattle.book.proofs.Admitted.{admitted-inside, added}
 use Rattle.book.proofs.Accepted.{at-same, same-at, accepted-fold, accepted-own, accepted-none, accepted-fits}
 
@@ -41,10 +43,8 @@ kept-on : {n : ℕ} {B B′ B″ : List ℕ} → Kept n B B′ → Kept n B′ B
 kept-on h k = record { long = k .long ∙ h .long; rest = k .rest ∙ h .rest }
 
 -- writing a cell before n keeps the book
-kept-cell : (n : ℕ) (B : List ℕ) (i : ℕ) (t : Totals) → i + 3 ≤ n → n ≤ length B → Kept n B (withCell B i t)
-kept-cell n B i t h k =
-    let vs : List ℕ = t .raw ∷ t .score ∷ t .lots ∷ [] in
-    record { long = length-put i vs B (omega arith); rest = drop-put i vs B (omega arith) n h }
+kept-cell : (n : ℕ) (B : List ℕ) (i : ℕ) (c : Cell) → i + width ≤ n → n ≤ length B → Kept n B (withCell B i c)
+kept-cell n B i c h k = record { long = length-put i (numbersOf c) B (omega arith); rest = drop-put i (numbersOf c) B (omega arith) n h }
 
 -- so does clearing the first n numbers
 kept-clear : (n : ℕ) (B : List ℕ) → n ≤ length B → Kept n B (over (table n (λ i. 0)) B)
@@ -60,8 +60,8 @@ module _ (S : List ℕ) {l : Layout} (e : checkOf S ≡ good l) where
   room B o = by-room S (length B) e (λ c. follow c (λ l. good tt) ≡ good tt → size l ≤ length B) (λ q. absurd (refused-good q)) (λ h q. h) o
 
   -- a record that is added has its cell inside the book
-  added-inside : (t : Totals) (R : List ℕ) → isAdded S l t R ≡ true → indexOf S l R + 3 ≤ size l
-  added-inside t R h = admitted-inside S l R (added S l R t h .passes)
+  added-inside : (c : Cell) (R : List ℕ) → isAdded S l c R ≡ true → indexOf S l R + width ≤ size l
+  added-inside c R h = admitted-inside S l R (added S l R c h .passes)
 
   -- open keeps the book past its cells
   kept-open : (B : List ℕ) → Kept (size l) B (openBook S B)
@@ -69,13 +69,13 @@ module _ (S : List ℕ) {l : Layout} (e : checkOf S ≡ good l) where
 
   -- so does a post to a book with room
   kept-in : (B R : List ℕ) → size l ≤ length B → Kept (size l) B (bookUnder S B R l)
-  kept-in B R h = go (isAdded S l t R) refl
+  kept-in B R h = go (isAdded S l c R) refl
     where
-      t : Totals
-      t = cellAt B (indexOf S l R)
+      c : Cell
+      c = cellAt B (indexOf S l R)
 
-      go : (b : Bool) → isAdded S l t R ≡ b → Kept (size l) B (cond b (withCell B (indexOf S l R) (plus t (totalsOf R))) B)
-      go true a = kept-cell (size l) B (indexOf S l R) (plus t (totalsOf R)) (added-inside t R a) h
+      go : (b : Bool) → isAdded S l c R ≡ b → Kept (size l) B (cond b (withCell B (indexOf S l R) (grown c (totalsOf R))) B)
+      go true a = kept-cell (size l) B (indexOf S l R) (grown c (totalsOf R)) (added-inside c R a) h
       go false a = kept-same
 
   -- a post to any book
@@ -92,7 +92,7 @@ module _ (S : List ℕ) {l : Layout} (e : checkOf S ≡ good l) where
     abbrev place : ℕ
     place = index (l .groups) f g d
 
-    -- after a post of a record whose cell it is, it holds what the record makes of its totals
+    -- after a post of a record whose cell it is, it is what the record makes of it
     post-here : (B R : List ℕ) → size l ≤ length B → isAt S l f g d R ≡ true
         → cellAt (bookUnder S B R l) place ≡ accept S l f g d (cellAt B place) R
     post-here B R h at =
@@ -100,41 +100,41 @@ module _ (S : List ℕ) {l : Layout} (e : checkOf S ≡ good l) where
         let there : indexOf S l R ≡ place = rw (s .firm, s .group, s .day) in
         rw (there, at) (go (isAdded S l (cellAt B place) R))
       where
-        sum : Totals
-        sum = plus (cellAt B place) (totalsOf R)
+        more : Cell
+        more = grown (cellAt B place) (totalsOf R)
 
-        go : (b : Bool) → cellAt (cond b (withCell B place sum) B) place ≡ cond b sum (cellAt B place)
-        go true = cell-same B place sum (omega (arith, inside l f g d listed placed))
+        go : (b : Bool) → cellAt (cond b (withCell B place more) B) place ≡ cond b more (cellAt B place)
+        go true = cell-same B place more (omega (arith, inside l f g d listed placed))
         go false = refl
 
-    -- after a post of any other, what it held
+    -- after a post of any other, what it was
     post-other : (B R : List ℕ) → size l ≤ length B → isAt S l f g d R ≡ false → cellAt (bookUnder S B R l) place ≡ cellAt B place
-    post-other B R h at = go (isAdded S l t R) refl
+    post-other B R h at = go (isAdded S l c R) refl
       where
-        t : Totals
-        t = cellAt B (indexOf S l R)
+        c : Cell
+        c = cellAt B (indexOf S l R)
 
-        go : (b : Bool) → isAdded S l t R ≡ b
-            → cellAt (cond b (withCell B (indexOf S l R) (plus t (totalsOf R))) B) place ≡ cellAt B place
+        go : (b : Bool) → isAdded S l c R ≡ b
+            → cellAt (cond b (withCell B (indexOf S l R) (grown c (totalsOf R))) B) place ≡ cellAt B place
         go true a =
-            let own = added S l R t a .passes .placed in
+            let own = added S l R c a .passes .placed in
             cell-other B
             ((f * l .groups + g) * 31 + d - 1)
-            ((firmOf S l R * l .groups + groupOf S l R) * 31 + day R - 1)
-            (plus t (totalsOf R))
-            (omega (arith, added-inside t R a))
-            (λ q. let s = same-cell (l .groups) (firmOf S l R) (groupOf S l R) (day R) f g d own placed (sym q) in
+            ((firmPlaceOf S l R * l .groups + groupPlaceOf S l R) * 31 + day R - 1)
+            (grown c (totalsOf R))
+            (omega (arith, added-inside c R a))
+            (λ q. let s = same-cell (l .groups) (firmPlaceOf S l R) (groupPlaceOf S l R) (day R) f g d own placed (sym q) in
             false≢true (sym at ∙ same-at S l f g d R s))
         go false a = refl
 
-    -- a book with room whose cell holds t
-    record Holds (B : List ℕ) (t : Totals) : Type 0 where
+    -- a book with room whose cell is c
+    record Holds (B : List ℕ) (c : Cell) : Type 0 where
       long : size l ≤ length B
-      cell : cellAt B place ≡ t
+      cell : cellAt B place ≡ c
 
     -- after any post
-    holds-post : (B : List ℕ) (t : Totals) (R : List ℕ) → Holds B t → Holds (postBook S B R) (accept S l f g d t R)
-    holds-post B t R h =
+    holds-post : (B : List ℕ) (c : Cell) (R : List ℕ) → Holds B c → Holds (postBook S B R) (accept S l f g d c R)
+    holds-post B c R h =
         record {
           long = rw (kept-post B R .long) (h .long);
           cell = rw (book-good S (length B) e (h .long), ← h .cell) (go (isAt S l f g d R) refl);
@@ -144,33 +144,33 @@ module _ (S : List ℕ) {l : Layout} (e : checkOf S ≡ good l) where
         go true at = post-here B R (h .long) at
         go false at = post-other B R (h .long) at ∙ rw at
 
-    -- after open it holds nothing
-    holds-open : (B : List ℕ) → size l ≤ length B → Holds (openBook S B) none
+    -- after open it is empty
+    holds-open : (B : List ℕ) → size l ≤ length B → Holds (openBook S B) empty
     holds-open B h =
         rw (book-good S (length B) e h)
         (record {
           long = rw (kept-clear (size l) B h .long) h;
-          cell = totals-eq (zero place (omega arith)) (zero (place + 1) (omega arith)) (zero (place + 2) (omega arith));
+          cell = cell-eq (zero place (omega arith)) (zero (place + 1) (omega arith)) (zero (place + 2) (omega arith));
         })
       where
-        zero : (i : ℕ) → i < place + 3 → getD (over (table (size l) (λ i. 0)) B) i 0 ≡ 0
+        zero : (i : ℕ) → i < place + width → getD (over (table (size l) (λ i. 0)) B) i 0 ≡ 0
         zero i k = table-over (λ i. 0) (size l) i B 0 (omega (arith, inside l f g d listed placed))
 
-    -- and after a list the accepted totals
+    -- and after a list what the list makes of it
     held-cell : (B : List ℕ) (rs : List (List ℕ)) → size l ≤ length B
-        → cellAt (posted S (openBook S B) rs) place ≡ accepted S rs f g d
+        → cellAt (posted S (openBook S B) rs) place ≡ acceptedCells S rs f g d
     unfolding posted
     held-cell B rs h =
-        fold-keeps Holds (postBook S) (accept S l f g d) holds-post (openBook S B) none rs (holds-open B h) .cell
+        fold-keeps Holds (postBook S) (accept S l f g d) holds-post (openBook S B) empty rs (holds-open B h) .cell
         ∙ sym (accepted-fold S e rs f g d)
 
-  -- so a firm's cells are its accepted totals
+  -- so it is with all of a firm's cells
   held-cells : (B : List ℕ) (rs : List (List ℕ)) (f : ℕ) → size l ≤ length B → f < l .firms
-      → cells (l .groups) (posted S (openBook S B) rs) f ≡ accepted S rs f
+      → cells (l .groups) (posted S (openBook S B) rs) f ≡ acceptedCells S rs f
   held-cells B rs f h listed = fun-ext (λ g. fun-ext (λ d. go g d (ltb g (l .groups) && within 1 31 d) refl))
     where
       go : (g d : ℕ) (b : Bool) → (ltb g (l .groups) && within 1 31 d) ≡ b
-          → cond b (cellAt (posted S (openBook S B) rs) (index (l .groups) f g d)) none ≡ accepted S rs f g d
+          → cond b (cellAt (posted S (openBook S B) rs) (index (l .groups) f g d)) empty ≡ acceptedCells S rs f g d
       go g d true t =
           let r = range 1 31 d (and-right (ltb g (l .groups)) (within 1 31 d) t) in
           let below = ltb-true _ _ (and-left (ltb g (l .groups)) (within 1 31 d) t) in
@@ -191,8 +191,8 @@ unchanged S B R = by (checkBook S (length B))
     by : (c : Outcome Layout) → (follow c (answerUnder S B R) ≡ good counted → ⊥) → given c B (bookUnder S B R) ≡ B
     by (refused n o) h = refl
     by (good l) h =
-        let n = cause S l (cellAt B (indexOf S l R)) R in
-        not-counted (isCounted S l R) (eqb n 0) n B _ h
+        let n = postCause S l (cellAt B (indexOf S l R)) R in
+        not-counted (isCountedRecord S l R) (eqb n 0) n B _ h
 
 -- every law of specs/Laws.antt
 pub laws : (S : List ℕ) {l : Layout} → checkOf S ≡ good l → Laws S l
@@ -200,8 +200,12 @@ laws S {l} e =
     record {
       unchanged = unchanged S;
       held = λ B rs f o listed. held-cells S e B rs f (room S e B o) listed;
+      held-totals = λ B rs f o listed. ap totals (held-cells S e B rs f (room S e B o) listed);
       beyond = λ B rs. kept-posted S e B rs .rest;
       kept = λ B rs. kept-posted S e B rs .long;
       limited = accepted-fits S e;
-      own-only = λ C f ps qs c s. sym (accepted-own S e C f ps c) ∙ ap (λ rs. accepted S rs f) s ∙ accepted-own S e C f qs c;
+      own-only = λ C f ps qs c s. ap totals (sym (accepted-own S e C f ps c) ∙ ap (λ rs. acceptedCells S rs f) s ∙ accepted-own S e C f qs c);
     }
+  where
+    totals : ((g d : ℕ) → Cell) → Cells
+    totals c g d = c g d .totals

@@ -1,8 +1,9 @@
--- Reading and writing a cell of the book, and where cells stand: each in its own place, inside the book.
+-- A cell that was written is read again, and no other cell changes, since cells stand each in its own place: a place is a number in base
+-- 31 and G, which has one firm, one group and one day. A listed firm's cells stand inside the book.
 -- Assumes nothing.
 use Prim.Native.Nat.{ℕ, _+_, _-_, _*_, _/_, _≤_, _<_}
 use mathlib.Core.Bool.{Bool, true, false}
-use mathlib.Core.List.{List, [], _∷_}
+use mathlib.Core.List.{List}
 use mathlib.Core.Path.{_≡_, refl, sym, _∙_, ap}
 use native.Mathlib.Nat.{mul-le-mul-right, mul-add-div-right, div-eq-of-lt, add-zero}
 use native.Mathlib.Omega.{arith}
@@ -10,42 +11,41 @@ use lib.Dec.{ltb}
 use lib.ListN.{length, getD}
 use borrow.Author.Tests.{ltb-true, ltb-false}
 use Rattle.wire.proofs.Lists.{put-in, put-front, put-past}
-use Rattle.rules.specs.declared.Totals.{Totals}
-use Rattle.schedule.specs.declared.scan.Layout.{Layout}
-use Rattle.book.specs.Book.{size, index, cellAt, withCell}
+use Rattle.schedule.specs.declared.lookup.Layout.{Layout}
+use Rattle.book.specs.Book.{width, size, index, cellAt, numbersOf, withCell}
+use Rattle.book.specs.declared.cells.Cell.{Cell}
 
--- totals of equal parts are equal
-pub totals-eq : {t u : Totals} → t .raw ≡ u .raw → t .score ≡ u .score → t .lots ≡ u .lots → t ≡ u
-totals-eq p q r = λ i. record { raw = p i; score = q i; lots = r i }
+-- cells of equal numbers are equal
+pub cell-eq : {c e : Cell} → c .totals .raw ≡ e .totals .raw → c .totals .score ≡ e .totals .score → c .totals .lots ≡ e .totals .lots → c ≡ e
+cell-eq p q r = λ i. record { totals = record { raw = p i; score = q i; lots = r i } }
 
-module _ (B : List ℕ) (i : ℕ) (t : Totals) (room : i + 3 ≤ length B) where
+module _ (B : List ℕ) (i : ℕ) (c : Cell) (room : i + width ≤ length B) where
   -- a cell that was written reads as what was written
-  pub cell-same : cellAt (withCell B i t) i ≡ t
+  pub cell-same : cellAt (withCell B i c) i ≡ c
   cell-same =
-      let read = put-in i (t .raw ∷ t .score ∷ t .lots ∷ []) B room in
+      let read = put-in i (numbersOf c) B room in
       let z : i ≡ i + 0 = omega arith in
-      totals-eq
-      (ap (λ (k : ℕ). getD (withCell B i t) k 0) z ∙ read 0 0 (omega arith))
-      (read 1 0 (omega arith))
-      (read 2 0 (omega arith))
+      cell-eq (ap (λ (k : ℕ). getD (withCell B i c) k 0) z ∙ read 0 0 (omega arith)) (read 1 0 (omega arith)) (read 2 0 (omega arith))
 
   -- a number outside it is as it was
-  other-number : (k : ℕ) → (i ≤ k → k < i + 3 → ⊥) → getD (withCell B i t) k 0 ≡ getD B k 0
+  other-number : (k : ℕ) → (i ≤ k → k < i + width → ⊥) → getD (withCell B i c) k 0 ≡ getD B k 0
   other-number k h = go (ltb k i) refl
     where
-      go : (b : Bool) → ltb k i ≡ b → getD (withCell B i t) k 0 ≡ getD B k 0
-      go true e = put-front i (t .raw ∷ t .score ∷ t .lots ∷ []) B room k 0 (ltb-true k i e)
+      go : (b : Bool) → ltb k i ≡ b → getD (withCell B i c) k 0 ≡ getD B k 0
+      go true e = put-front i (numbersOf c) B room k 0 (ltb-true k i e)
       go false e =
           let l = ltb-false k i e in
-          let far : k < i + 3 → ⊥ = h l in
-          put-past i (t .raw ∷ t .score ∷ t .lots ∷ []) B room k 0 (omega arith)
+          let far : k < i + width → ⊥ = h l in
+          put-past i (numbersOf c) B room k 0 (omega arith)
 
 -- so is every other cell
-pub cell-other : (B : List ℕ) (m n : ℕ) (t : Totals) → n * 3 + 3 ≤ length B → (m ≡ n → ⊥)
-    → cellAt (withCell B (n * 3) t) (m * 3) ≡ cellAt B (m * 3)
-cell-other B m n t room h =
-    let read = other-number B (n * 3) t room in
-    totals-eq (read (m * 3) (λ a b. omega arith)) (read (m * 3 + 1) (λ a b. omega arith)) (read (m * 3 + 2) (λ a b. omega arith))
+pub cell-other : (B : List ℕ) (m n : ℕ) (c : Cell) → n * width + width ≤ length B → (m ≡ n → ⊥)
+    → cellAt (withCell B (n * width) c) (m * width) ≡ cellAt B (m * width)
+cell-other B m n c room h =
+    let read : (k : ℕ) → k < width → getD (withCell B (n * width) c) (m * width + k) 0 ≡ getD B (m * width + k) 0
+    = λ k l. other-number B (n * width) c room (m * width + k) (λ a b. omega arith) in
+    let z : m * width ≡ m * width + 0 = omega arith in
+    cell-eq (rw z (read 0 (omega arith))) (read 1 (omega arith)) (read 2 (omega arith))
 
 -- the high digit of a number in base m
 quotient : (m a b : ℕ) → b < m → (a * m + b) / m ≡ a
@@ -69,7 +69,7 @@ pub record Placed (G g d : ℕ) : Type 0 where
   pub last : d ≤ 31
 
 -- a cell of a listed firm lies inside the book
-pub inside : (l : Layout) (f g d : ℕ) → f < l .firms → Placed (l .groups) g d → index (l .groups) f g d + 3 ≤ size l
+pub inside : (l : Layout) (f g d : ℕ) → f < l .firms → Placed (l .groups) g d → index (l .groups) f g d + width ≤ size l
 inside l f g d h p =
     let row : (f + 1) * l .groups ≤ l .firms * l .groups = mul-le-mul-right (l .groups) (omega arith) in
     omega (arith, row, p)

@@ -5,34 +5,39 @@ use Prim.Native.Nat.{ℕ}
 use mathlib.Core.Bool.{Bool, cond, _&&_}
 use mathlib.Core.List.{List, foldl}
 use lib.Dec.{eqb}
+use Rattle.records.specs.Fields.{sameCode}
 use Rattle.wire.specs.Choose.{choose}
 use Rattle.wire.specs.Lists.{keep}
 use Rattle.rules.specs.Month.{Cells}
-use Rattle.rules.specs.declared.Totals.{Totals}
-use Rattle.schedule.specs.Lookup.{firmHas}
-use Rattle.schedule.specs.Check.{given, checkOf}
-use Rattle.schedule.specs.declared.scan.Layout.{Layout}
-use Rattle.book.specs.Activity.{day, totalsOf}
-use Rattle.book.specs.Book.{none}
-use Rattle.book.specs.Post.{plus, formCauses, firmOf, groupOf, isAdded, postBook}
+use Rattle.schedule.specs.Outcome.{given}
+use Rattle.schedule.specs.Check.{checkOf}
+use Rattle.schedule.specs.declared.lookup.Layout.{Layout}
+use Rattle.book.specs.Activity.{firmCode, day, totalsOf}
+use Rattle.book.specs.Book.{empty, grown}
+use Rattle.book.specs.Post.{formCauses, firmPlaceOf, groupPlaceOf, isAdded, postBook}
+use Rattle.book.specs.declared.cells.Cell.{Cell}
 
 module _ (S : List ℕ) (l : Layout) (f g d : ℕ) where
   -- the record's cell is that of firm f, group g and day d
   abbrev pub isAt : (R : List ℕ) → Bool
-  isAt R = eqb (firmOf S l R) f && (eqb (groupOf S l R) g && eqb (day R) d)
+  isAt R = eqb (firmPlaceOf S l R) f && (eqb (groupPlaceOf S l R) g && eqb (day R) d)
 
   -- Accepted totals: a record adds its own to its cell's when its day is in effect, its contract is counted and no cause that concerns a
   -- posted record refuses it, 18 being asked of these totals; every other record adds nothing
-  abbrev pub accept : Totals → (R : List ℕ) → Totals
-  accept t R = cond (isAt R && isAdded S l t R) (plus t (totalsOf R)) t
+  abbrev pub accept : Cell → (R : List ℕ) → Cell
+  accept c R = cond (isAt R && isAdded S l c R) (grown c (totalsOf R)) c
 
--- Accepted totals of a firm's cells, from the schedule and the list alone: raw, score and lots start at 0
-unfoldable pub accepted : (S : List ℕ) → (rs : List (List ℕ)) → (f : ℕ) → Cells
-accepted S rs f g d = given (checkOf S) none (λ l. foldl (accept S l f g d) none rs)
+-- a firm's cells, from the schedule and the list alone: raw, score and lots start at 0
+unfoldable pub acceptedCells : (S : List ℕ) → (rs : List (List ℕ)) → (f g d : ℕ) → Cell
+acceptedCells S rs f g d = given (checkOf S) empty (λ l. foldl (accept S l f g d) empty rs)
+
+-- Accepted totals of a firm's cells
+abbrev pub accepted : (S : List ℕ) → (rs : List (List ℕ)) → (f : ℕ) → Cells
+accepted S rs f g d = acceptedCells S rs f g d .totals
 
 -- A firm's own posts: the records that 11 to 13 don't refuse and that carry its code C at 4
 abbrev pub isOwn : (C R : List ℕ) → Bool
-isOwn C R = eqb (choose (formCauses R) 0) 0 && firmHas R 0 C
+isOwn C R = eqb (choose (formCauses R) 0) 0 && sameCode (firmCode R) C
 
 -- whether refused later or not, in their order
 abbrev pub own : (C : List ℕ) → (rs : List (List ℕ)) → List (List ℕ)

@@ -6,6 +6,13 @@ use lib.ListN.{getD, take, drop}
 use Rattle.wire.specs.Bytes.{u16At, u32At}
 use Rattle.rules.specs.declared.Totals.{Totals}
 
+-- Records: kind 4, activity, 44 bytes
+abbrev pub activityKind : ℕ
+activityKind = 4
+
+abbrev pub activityLength : ℕ
+activityLength = 44
+
 -- Records, kind 4: firm at 4
 abbrev pub firmCode : (R : List ℕ) → List ℕ
 firmCode R = take 3 (drop 4 R)
@@ -23,8 +30,8 @@ abbrev pub groupSecond : (R : List ℕ) → ℕ
 groupSecond R = getD R 9 0
 
 -- Records, kind 4: contract u16 at 10
-abbrev pub contract : (R : List ℕ) → ℕ
-contract R = u16At R 10
+abbrev pub contractOf : (R : List ℕ) → ℕ
+contractOf R = u16At R 10
 
 -- Records, kind 4: u32 each from 12, first new orders
 abbrev pub newOrders : (R : List ℕ) → ℕ

@@ -1,5 +1,5 @@
--- The book: raw, score and lots of every cell in one list of numbers; its size, a cell's place in it, and open (document 01, "The book and
--- its calls"). B is the book, S the schedule.
+-- The book: the numbers of every cell in one list; its size, a cell's place in it, and open (document 01, "The book and its calls").
+-- `Cell` is the struct of src/cells.rt. B is the book, S the schedule.
 -- Assumes nothing.
 use Prim.Native.Nat.{ℕ, _+_, _-_, _*_}
 use mathlib.Core.Bool.{cond, _&&_}
@@ -11,34 +11,64 @@ use Rattle.wire.specs.Choose.{within}
 use Rattle.wire.specs.Lists.{table, put, over}
 use Rattle.rules.specs.Month.{Cells}
 use Rattle.rules.specs.declared.Totals.{Totals}
-use Rattle.schedule.specs.Check.{Outcome, refused, good, follow, given, checkOf}
-use Rattle.schedule.specs.declared.scan.Layout.{Layout}
+use Rattle.schedule.specs.Outcome.{Outcome, refused, good, follow, given}
+use Rattle.schedule.specs.Check.{checkOf}
+use Rattle.schedule.specs.declared.lookup.Layout.{Layout}
+use Rattle.book.specs.declared.cells.Cell.{Cell}
 use Rattle.book.specs.declared.opening.Opened.{Opened}
 use Rattle.book.specs.declared.opening.Opened.the-variants as opened
 
--- Open: 93 × G × F, three numbers for each of 31 days, G groups and F firms
+-- The book and its calls: a cell's numbers are three
+abbrev pub width : ℕ
+width = 3
+
+-- Open: 93, the numbers of one firm in one group, for 31 days
+abbrev pub perFirmGroup : ℕ
+perFirmGroup = 31 * width
+
+-- Open: 93 × G × F
 abbrev pub size : Layout → ℕ
-size l = 93 * l .groups * l .firms
+size l = perFirmGroup * l .groups * l .firms
 
 -- The book and its calls: a cell stands at ((f × G + g) × 31 + day − 1) × 3, f and g counted from 0, G groups
 abbrev pub index : (G f g day : ℕ) → ℕ
-index G f g day = ((f * G + g) * 31 + day - 1) * 3
+index G f g day = ((f * G + g) * 31 + day - 1) * width
+
+-- The book and its calls: raw, score, lots at a place and the two after
+abbrev pub cellAt : (B : List ℕ) → (i : ℕ) → Cell
+cellAt B i = record { totals = record { raw = getD B i 0; score = getD B (i + 1) 0; lots = getD B (i + 2) 0 } }
+
+-- a cell's numbers, as they stand in the book
+abbrev pub numbersOf : Cell → List ℕ
+numbersOf c = c .totals .raw ∷ c .totals .score ∷ c .totals .lots ∷ []
+
+-- the book with this cell there
+abbrev pub withCell : (B : List ℕ) → (i : ℕ) → Cell → List ℕ
+withCell B i c = put i (numbersOf c) B
 
 -- no messages, no lots
 abbrev pub none : Totals
 none = record { raw = 0; score = 0; lots = 0 }
 
--- The book and its calls: raw, score, lots at a place and the two after
-abbrev pub cellAt : (B : List ℕ) → (i : ℕ) → Totals
-cellAt B i = record { raw = getD B i 0; score = getD B (i + 1) 0; lots = getD B (i + 2) 0 }
+-- a cell as open leaves it
+abbrev pub empty : Cell
+empty = record { totals = none }
 
--- the book with these totals there
-abbrev pub withCell : (B : List ℕ) → (i : ℕ) → Totals → List ℕ
-withCell B i t = put i (t .raw ∷ t .score ∷ t .lots ∷ []) B
+-- t and a, added
+abbrev pub plus : (t a : Totals) → Totals
+plus t a = record { raw = t .raw + a .raw; score = t .score + a .score; lots = t .lots + a .lots }
 
--- a firm's cells; past the groups, and on days outside 1 to 31, it has none
-abbrev pub cells : (G : ℕ) → (B : List ℕ) → (f : ℕ) → Cells
-cells G B f g day = cond (ltb g G && within 1 31 day) (cellAt B (index G f g day)) none
+-- the cell c, to whose totals a were added
+abbrev pub grown : (c : Cell) → (a : Totals) → Cell
+grown c a = record { totals = plus (c .totals) a }
+
+-- a firm's cells; past the groups, and on days outside 1 to 31, they are empty
+abbrev pub cells : (G : ℕ) → (B : List ℕ) → (f g day : ℕ) → Cell
+cells G B f g day = cond (ltb g G && within 1 31 day) (cellAt B (index G f g day)) empty
+
+-- their totals, by which days and months are judged
+abbrev pub totalsIn : (G : ℕ) → (B : List ℕ) → (f : ℕ) → Cells
+totalsIn G B f g day = cells G B f g day .totals
 
 -- Numbers of refusal, 1 to 8, of every call but the verdict: the schedule's, then a book of so many numbers under 93 × G × F; else what the
 -- schedule holds

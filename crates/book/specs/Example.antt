@@ -1,22 +1,23 @@
--- A computed example of posts: the schedule of document 01's whole run (October 2019, every day in effect but the second, ES, firm ABC), and
+-- A computed example of posts: a schedule as in document 01's whole run (October 2019, ES, firm ABC), but with day 2 not in effect, and
 -- records whose counts are all different, so that a count read in the place of another would show.
 -- Assumes nothing.
-use Prim.Native.Nat.{ℕ}
+use Prim.Native.Nat.{ℕ, _+_}
 use mathlib.Core.List.{List, [], _∷_, _++_}
 use mathlib.Core.Path.{_≡_, refl}
 use Rattle.wire.specs.Bytes.{u16At, u32At}
 use Rattle.wire.specs.Choose.{choose, all, seekIn}
 use Rattle.wire.specs.Lists.{joined, table, over}
 use Rattle.wire.specs.Sums.{sum}
-use Rattle.schedule.specs.Calendar.{daysIn}
-use Rattle.schedule.specs.Counted.{contractListed, contractCounted, inFront, isAfter, isCounted, contractIs}
-use Rattle.schedule.specs.Fields.{isCode, headOk, listed, contract, before, contractBad, contractsOk, groupOk, firmOk}
+use Rattle.calendar.specs.Calendar.{daysIn}
+use Rattle.records.specs.Counted.{contractListed, contractCounted, inFront, isAfter, isCounted, contractIs}
+use Rattle.records.specs.Fields.{headFields, headOk, groupFields, groupInRange, contractsOk, contractBad, before, contract, listed, isLetter, firmFields, firmOk, hasCode}
 use Rattle.schedule.specs.Lookup.{groupStart, groupIs, firmIs, groupListed, firmListed}
-use Rattle.schedule.specs.Check.{Outcome, refused, good, byKind, isDue, lengthOk, isFull, fieldsOk, isRepeated, cause as recordCause, after, ending, scan, checkOf}
+use Rattle.schedule.specs.Outcome.{Outcome, refused, good}
+use Rattle.schedule.specs.Check.{checkOf, scan, ending, grown, cause, isRepeated, fieldsOk, isFull, lengthOk, isDue, kindOf}
 use Rattle.book.specs.Activity.{totalsOf}
-use Rattle.book.specs.Book.{none, checkBook, openBook}
-use Rattle.book.specs.Post.{Effect, outside, counted, cause, postAnswer, postBook}
-use Rattle.book.specs.Accepted.{accepted, posted}
+use Rattle.book.specs.Book.{perFirmGroup, none, checkBook, openBook}
+use Rattle.book.specs.Post.{Effect, outside, counted, postCause, postAnswer, postBook}
+use Rattle.book.specs.Accepted.{acceptedCells, accepted, posted}
 use Rattle.book.specs.Samples.{head, group, firm, activity}
 
 -- October 2019 with day 2 not in effect, ES and ABC
@@ -36,9 +37,9 @@ abbrev answers : (B : List ℕ) → (rs : List (List ℕ)) → List (Outcome Eff
 answers B [] = []
 answers B (R ∷ rs) = postAnswer schedule B R ∷ answers (postBook schedule B R) rs
 
--- a book of 94 numbers, opened
+-- a book with one number more than it needs, opened
 abbrev book : List ℕ
-book = openBook schedule (table 94 (λ i. 7))
+book = openBook schedule (table (perFirmGroup + 1) (λ i. 7))
 
 pub record Example : Type 0 where
   pub answered : answers book posts ≡ good counted ∷ good outside ∷ good counted ∷ refused 16 0 ∷ refused 17 0 ∷ refused 11 0 ∷ []
@@ -48,5 +49,8 @@ pub record Example : Type 0 where
   pub holds : posted schedule book posts ≡ over (2222 ∷ 666620 ∷ 20000000 ∷ []) book
 
 pub example : Example
-unfolding accepted posted checkBook checkOf scan ending after recordCause cause isRepeated fieldsOk isFull lengthOk isDue byKind firmListed groupListed firmIs groupIs groupStart firmOk groupOk contractsOk contractBad before contract listed headOk isCode contractIs isCounted isAfter inFront contractCounted contractListed daysIn sum joined seekIn all choose u32At u16At totalsOf
+unfolding acceptedCells posted postCause totalsOf checkBook checkOf scan ending grown cause isRepeated fieldsOk isFull lengthOk isDue kindOf
+    firmListed groupListed firmIs groupIs groupStart firmOk firmFields hasCode groupInRange groupFields contractsOk contractBad before contract
+    listed headOk headFields isLetter contractIs isCounted isAfter inFront contractCounted contractListed daysIn sum joined seekIn all choose u32At
+    u16At
 example = record { answered = refl; accepts = refl; passes = refl; holds = refl }

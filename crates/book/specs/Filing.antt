@@ -8,24 +8,24 @@ use Rattle.wire.specs.Choose.{choose}
 use Rattle.rules.specs.Verdict.{fits}
 use Rattle.rules.specs.declared.Totals.{Totals}
 use Rattle.schedule.specs.Lookup.{groupStart}
-use Rattle.schedule.specs.Check.{refused, good}
-use Rattle.schedule.specs.declared.scan.Layout.{Layout}
-use Rattle.book.specs.Book.{cellAt, withCell}
-use Rattle.book.specs.Post.{plus, firmOf, groupOf, indexOf, isCounted, counted, postMeaning}
+use Rattle.schedule.specs.Outcome.{refused, good}
+use Rattle.schedule.specs.declared.lookup.Layout.{Layout}
+use Rattle.book.specs.Book.{cellAt, withCell, grown}
+use Rattle.book.specs.Post.{firmPlaceOf, groupPlaceOf, indexOf, isCountedRecord, counted, postMeaning}
 use Rattle.book.specs.declared.filing.Filed.{Filed}
 use Rattle.book.specs.declared.filing.Filed.the-variants as filed
 use Rattle.book.specs.declared.posting.Posted.{Posted}
 
 -- adding a record's totals a to the cell at i: 18, or counted
 pub record AddIs (B : List ℕ) (i : ℕ) (a : Totals) (r : Posted) (B′ : List ℕ) : Type 0 where
-  pub answer : postMeaning r ≡ cond (fits 1 (plus (cellAt B i) a)) (good counted) (refused 18 0)
-  pub book : B′ ≡ cond (fits 1 (plus (cellAt B i) a)) (withCell B i (plus (cellAt B i) a)) B
+  pub answer : postMeaning r ≡ cond (fits 1 (grown (cellAt B i) a .totals)) (good counted) (refused 18 0)
+  pub book : B′ ≡ cond (fits 1 (grown (cellAt B i) a .totals)) (withCell B i (grown (cellAt B i) a)) B
 
 -- the record's firm and group were found: their places, and where the group's record stands
 pub record FoundIs (S : List ℕ) (l : Layout) (R : List ℕ) (firm group offset : ℕ) : Type 0 where
-  pub firmIs : firm ≡ firmOf S l R
-  pub groupIs : group ≡ groupOf S l R
-  pub offsetIs : offset ≡ groupStart S (groupOf S l R)
+  pub firmIs : firm ≡ firmPlaceOf S l R
+  pub groupIs : group ≡ groupPlaceOf S l R
+  pub offsetIs : offset ≡ groupStart S (l .first) (groupPlaceOf S l R)
   pub firmMost : firm < l .firms
   pub groupMost : group < l .groups
 
@@ -38,7 +38,7 @@ module _ (S : List ℕ) (l : Layout) (R : List ℕ) (cs : List (Bool × ℕ)) wh
 
   pub record Filable (counts : Bool) : Type 0 where
     pub none : choose cs 0 ≡ 0
-    pub counted : isCounted S l R ≡ counts
+    pub counted : isCountedRecord S l R ≡ counts
 
   abbrev pub FiledIs : Filed → Type 0
   FiledIs (filed.Refused n) = Stopped n

@@ -1,61 +1,58 @@
 -- A post: the causes that refuse a record, its answer, and the book after it (document 01, "The book and its calls" and "Numbers of refusal").
 -- S is the schedule, l what it holds, R the record, B the book.
 -- Assumes nothing.
-use Prim.Native.Nat.{ℕ, _+_}
+use Prim.Native.Nat.{ℕ}
 use mathlib.Core.Bool.{Bool, cond, not, _&&_}
 use mathlib.Core.List.{List, [], _∷_, _++_}
 use mathlib.Core.Path.{_≡_}
 use lib.Dec.{ltb, eqb}
 use lib.ListN.{length}
-use Rattle.wire.specs.Choose.{choose, within, seek}
+use Rattle.wire.specs.Choose.{choose, within}
 use Rattle.rules.specs.Verdict.{fits}
-use Rattle.rules.specs.declared.Totals.{Totals}
-use Rattle.schedule.specs.Calendar.{daysIn, inEffect}
-use Rattle.schedule.specs.Lookup.{lengthAt, kindAt, bodyAt, groupStart, groupIs, groupListed, firmPlace, firmListed}
-use Rattle.schedule.specs.Counted.{contractListed, contractCounted}
-use Rattle.schedule.specs.Check.{Outcome, refused, good, follow, given}
-use Rattle.schedule.specs.declared.scan.Layout.{Layout}
-use Rattle.book.specs.Activity.{firmCode, day, groupFirst, groupSecond, contract, totalsOf}
-use Rattle.book.specs.Book.{index, cellAt, withCell, checkBook}
+use Rattle.calendar.specs.Calendar.{daysIn, inEffect}
+use Rattle.records.specs.Bodies.{lengthAt, kindAt, bodyAt}
+use Rattle.schedule.specs.Lookup.{groupStart, groupPlace, groupListed, firmPlace, firmListed}
+use Rattle.records.specs.Counted.{contractListed, contractCounted}
+use Rattle.schedule.specs.Outcome.{Outcome, refused, good, follow, given}
+use Rattle.schedule.specs.declared.lookup.Layout.{Layout}
+use Rattle.book.specs.Activity.{activityKind, activityLength, firmCode, day, groupFirst, groupSecond, contractOf, totalsOf}
+use Rattle.book.specs.Book.{index, cellAt, withCell, grown, checkBook}
+use Rattle.book.specs.declared.cells.Cell.{Cell}
 use Rattle.book.specs.declared.posting.Posted.{Posted}
 use Rattle.book.specs.declared.posting.Posted.the-variants as posted
-
--- t and a, added
-abbrev pub plus : (t a : Totals) → Totals
-plus t a = record { raw = t .raw + a .raw; score = t .score + a .score; lots = t .lots + a .lots }
 
 -- Numbers of refusal, 11 to 13, of the record alone: under four bytes; kind not 4; length field or slice not 44
 abbrev pub formCauses : (R : List ℕ) → List (Bool × ℕ)
 formCauses R =
     (ltb (length R) 4, 11)
-    ∷ (not (eqb (kindAt R 0) 4), 12)
-    ∷ (not (eqb (lengthAt R 0) 44 && eqb (length R) 44), 13)
+    ∷ (not (eqb (kindAt R 0) activityKind), 12)
+    ∷ (not (eqb (lengthAt R 0) activityLength && eqb (length R) activityLength), 13)
     ∷ []
 
 module _ (S : List ℕ) (l : Layout) where
   -- the place of the record's firm, from 0; past the last, where it is unlisted
-  abbrev pub firmOf : (R : List ℕ) → ℕ
-  firmOf R = firmPlace S (l .start) (l .firms) (firmCode R)
+  abbrev pub firmPlaceOf : (R : List ℕ) → ℕ
+  firmPlaceOf R = firmPlace S l (firmCode R)
 
   -- the place of its group, likewise
-  abbrev pub groupOf : (R : List ℕ) → ℕ
-  groupOf R = seek 0 (l .groups) (groupIs S (groupFirst R) (groupSecond R))
+  abbrev pub groupPlaceOf : (R : List ℕ) → ℕ
+  groupPlaceOf R = groupPlace S l (groupFirst R) (groupSecond R)
 
   -- its group's body in the schedule
   abbrev pub groupBody : (R : List ℕ) → List ℕ
-  groupBody R = bodyAt S (groupStart S (groupOf R))
+  groupBody R = bodyAt S (groupStart S (l .first) (groupPlaceOf R))
 
   -- where its cell stands in the book
   abbrev pub indexOf : (R : List ℕ) → ℕ
-  indexOf R = index (l .groups) (firmOf R) (groupOf R) (day R)
+  indexOf R = index (l .groups) (firmPlaceOf R) (groupPlaceOf R) (day R)
 
   -- Numbers of refusal, 14 to 17, against the schedule: firm unlisted; group unlisted; day 0 or past the month; contract unlisted for the group
   abbrev pub listCauses : (R : List ℕ) → List (Bool × ℕ)
   listCauses R =
-      (not (firmListed S (l .start) (l .firms) (firmCode R)), 14)
-      ∷ (not (groupListed S (l .groups) (groupFirst R) (groupSecond R)), 15)
+      (not (firmListed S l (firmCode R)), 14)
+      ∷ (not (groupListed S l (groupFirst R) (groupSecond R)), 15)
       ∷ (not (within 1 (daysIn (l .month)) (day R)), 16)
-      ∷ (not (contractListed (groupBody R) (contract R)), 17)
+      ∷ (not (contractListed (groupBody R) (contractOf R)), 17)
       ∷ []
 
   -- Numbers of refusal, 11 to 17: all that is asked of a record but for the cell
@@ -63,20 +60,20 @@ module _ (S : List ℕ) (l : Layout) where
   recordCauses R = formCauses R ++ listCauses R
 
   -- Post: a day in effect and a counted contract
-  abbrev pub isCounted : (R : List ℕ) → Bool
-  isCounted R = inEffect (l .month) (l .closed) (day R) && contractCounted (groupBody R) (contract R)
+  abbrev pub isCountedRecord : (R : List ℕ) → Bool
+  isCountedRecord R = inEffect (l .month) (l .closed) (day R) && contractCounted (groupBody R) (contractOf R)
 
-  -- Numbers of refusal, 18: counted, and a total of the cell, which holds t, would be above 10,000,000,000 after it
-  abbrev pub limitCause : (t : Totals) → (R : List ℕ) → List (Bool × ℕ)
-  limitCause t R = (isCounted R && not (fits 1 (plus t (totalsOf R))), 18) ∷ []
+  -- Numbers of refusal, 18: counted, and a total of its cell c would be above 10,000,000,000 after it
+  abbrev pub limitCause : (c : Cell) → (R : List ℕ) → List (Bool × ℕ)
+  limitCause c R = (isCountedRecord R && not (fits 1 (grown c (totalsOf R) .totals)), 18) ∷ []
 
-  -- Numbers of refusal, 11 to 18, top to bottom: the first that refuses the record, where its cell holds t; 0 where none does
-  unfoldable pub cause : (t : Totals) → (R : List ℕ) → ℕ
-  cause t R = choose (recordCauses R ++ limitCause t R) 0
+  -- Numbers of refusal, 11 to 18, top to bottom: the first that refuses the record, whose cell is c; 0 where none does
+  unfoldable pub postCause : (c : Cell) → (R : List ℕ) → ℕ
+  postCause c R = choose (recordCauses R ++ limitCause c R) 0
 
-  -- the record adds to its cell, which holds t: it is counted, and no cause refuses it
-  abbrev pub isAdded : (t : Totals) → (R : List ℕ) → Bool
-  isAdded t R = isCounted R && eqb (cause t R) 0
+  -- the record adds to its cell c: it is counted, and no cause refuses it
+  abbrev pub isAdded : (c : Cell) → (R : List ℕ) → Bool
+  isAdded c R = isCountedRecord R && eqb (postCause c R) 0
 
 -- what a post does that isn't refused
 pub data Effect : Type 0 where
@@ -92,14 +89,14 @@ module _ (S B R : List ℕ) where
   -- Post: 11 to 18, asked of the cell as it stands in the book; else "counted" or "outside"
   abbrev pub answerUnder : Layout → Outcome Effect
   answerUnder l =
-      let n = cause S l (cellAt B (indexOf S l R)) R in
-      cond (eqb n 0) (good (cond (isCounted S l R) counted outside)) (refused n 0)
+      let n = postCause S l (cellAt B (indexOf S l R)) R in
+      cond (eqb n 0) (good (cond (isCountedRecord S l R) counted outside)) (refused n 0)
 
   -- Post adds to the cell, or changes nothing
   abbrev pub bookUnder : Layout → List ℕ
   bookUnder l =
-      let t = cellAt B (indexOf S l R) in
-      cond (isAdded S l t R) (withCell B (indexOf S l R) (plus t (totalsOf R))) B
+      let c = cellAt B (indexOf S l R) in
+      cond (isAdded S l c R) (withCell B (indexOf S l R) (grown c (totalsOf R))) B
 
   -- Post, after 1 to 8
   abbrev pub postAnswer : Outcome Effect

@@ -1,21 +1,50 @@
-// What an activity record adds to its cell.
+// The activity record: its kind, its length, where its fields stand, and what it adds to its cell.
 use rules::Totals;
 use wire::u32_at;
 ghost use mathlib.Core.Path.{_≡_};
 ghost use Rattle.book.specs.Activity.{totalsOf};
 
+pub const ACTIVITY_KIND: u16 = 4;
+
+pub(crate) const LENGTH: usize = 44;
+
+pub(crate) const FIRM: usize = 4;
+
+pub(crate) const DAY: usize = 7;
+
+pub(crate) const GROUP_FIRST: usize = 8;
+
+pub(crate) const GROUP_SECOND: usize = 9;
+
+pub(crate) const CONTRACT: usize = 10;
+
+const NEW_ORDERS: usize = 12;
+
+const MODIFICATIONS: usize = 16;
+
+const CANCELLATIONS: usize = 20;
+
+const FAK_FOK: usize = 24;
+
+const MASS_REQUESTS: usize = 28;
+
+const MASS_REPORTS: usize = 32;
+
+const LOTS: usize = 40;
+
+// What a record adds to its cell.
 pub(crate) fn totals_of(record: &[u8]) -> Totals
     ensures { λ r. ⌜ r ≡ totalsOf (now («record» .entry)) ⌝ }
 {
-    let new_orders = u32_at(record, 12) as u64;
-    let modifications = u32_at(record, 16) as u64;
-    let cancellations = u32_at(record, 20) as u64;
-    let fak_fok = u32_at(record, 24) as u64;
-    let mass_requests = u32_at(record, 28) as u64;
-    let mass_reports = u32_at(record, 32) as u64;
+    let new_orders = u32_at(record, NEW_ORDERS) as u64;
+    let modifications = u32_at(record, MODIFICATIONS) as u64;
+    let cancellations = u32_at(record, CANCELLATIONS) as u64;
+    let fak_fok = u32_at(record, FAK_FOK) as u64;
+    let mass_requests = u32_at(record, MASS_REQUESTS) as u64;
+    let mass_reports = u32_at(record, MASS_REPORTS) as u64;
     Totals {
         raw: new_orders + modifications + cancellations + fak_fok,
         score: modifications + 3 * (cancellations + fak_fok + mass_requests + mass_reports),
-        lots: u32_at(record, 40) as u64,
+        lots: u32_at(record, LOTS) as u64,
     }
 }

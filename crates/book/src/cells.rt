@@ -1,4 +1,4 @@
-// Where the cells stand in the book, and how many numbers it needs.
+// What a cell holds, where the cells stand in the book, and how many numbers it needs.
 use rules::Totals;
 use schedule::Checked;
 use schedule::Layout;
@@ -7,22 +7,33 @@ ghost use mathlib.Core.Path.{_≡_};
 ghost use Prim.Native.Nat.{_+_, _^_, _≤_, _<_};
 ghost use lib.ListN.{length, getD};
 ghost use Rattle.schedule.specs.Check.{meaning};
-ghost use Rattle.book.specs.Book.{size, index, cellAt, withCell, cells, checkBook};
+ghost use Rattle.book.specs.Book.{width, size, index, cellAt, withCell, totalsIn, checkBook};
+
+// What the book keeps of one firm, one group and one day.
+pub struct Cell {
+    pub totals: Totals,
+}
+
+// How many numbers a cell has.
+const WIDTH: usize = 3;
+
+// How many numbers a firm has in one group, for 31 days.
+pub const PER_FIRM_GROUP: usize = 31 * WIDTH;
 
 // How many numbers a book needs.
 pub(crate) fn book_size(l: Layout) -> usize
     ensures { λ r. ⌜ r ≡ size l ⌝ }
 {
-    93 * (l.groups as usize) * (l.firms as usize)
+    PER_FIRM_GROUP * (l.groups as usize) * (l.firms as usize)
 }
 
-// Where a cell's three numbers start: firm and group counted from 0, the day from 1.
+// Where a cell's numbers start: firm and group counted from 0, the day from 1.
 pub(crate) fn cell_index(groups: u8, firm: usize, group: usize, day: u8) -> usize
     requires { ⌜ (firm < 256) × (group < 256) × (1 ≤ day) ⌝ }
     ensures { λ r. ⌜ r ≡ index groups firm group day ⌝ }
 {
     let row = firm * (groups as usize) + group;
-    (row * 31 + (day as usize) - 1) * 3
+    (row * 31 + (day as usize) - 1) * WIDTH
 }
 
 // A number of the book, 0 past its end.
@@ -32,21 +43,22 @@ fn number_at(book: &[u64], i: usize) -> u64
     if i < book.len() { book[i] } else { 0 }
 }
 
-// The totals of the cell at a place.
-pub(crate) fn cell_at(book: &[u64], at: usize) -> Totals
+// The cell at a place.
+pub(crate) fn cell_at(book: &[u64], at: usize) -> Cell
     requires { ⌜ at < 2 ^ 60 ⌝ }
     ensures { λ r. ⌜ r ≡ cellAt (now (book .entry)) at ⌝ }
 {
-    Totals {
+    let totals = Totals {
         raw: number_at(book, at),
         score: number_at(book, at + 1),
         lots: number_at(book, at + 2),
-    }
+    };
+    Cell { totals }
 }
 
-// A firm's cell: no totals past the groups, and on a day outside 1 to 31.
-pub fn cell(book: &[u64], groups: u8, firm: u8, group: u8, day: u8) -> Totals
-    ensures { λ r. ⌜ r ≡ cells groups (now (book .entry)) firm group day ⌝ }
+// The totals of a firm's cell: none past the groups, and on a day outside 1 to 31.
+pub fn totals_in(book: &[u64], groups: u8, firm: u8, group: u8, day: u8) -> Totals
+    ensures { λ r. ⌜ r ≡ totalsIn groups (now (book .entry)) firm group day ⌝ }
 {
     if !((group < groups) & ((1 <= day) & (day <= 31))) {
         return Totals {
@@ -55,14 +67,16 @@ pub fn cell(book: &[u64], groups: u8, firm: u8, group: u8, day: u8) -> Totals
             lots: 0,
         };
     }
-    cell_at(book, cell_index(groups, firm as usize, group as usize, day))
+    let cell = cell_at(book, cell_index(groups, firm as usize, group as usize, day));
+    cell.totals
 }
 
-// Puts totals into the cell at a place.
-pub(crate) fn store_cell(book: &mut [u64], at: usize, t: Totals)
-    requires { ⌜ at + 3 ≤ length (now book) ⌝ }
-    ensures { λ _. ⌜ now (book .exit) ≡ withCell (now (book .entry)) at t ⌝ }
+// Stores a cell at a place.
+pub(crate) fn store_cell(book: &mut [u64], at: usize, cell: Cell)
+    requires { ⌜ at + width ≤ length (now book) ⌝ }
+    ensures { λ _. ⌜ now (book .exit) ≡ withCell (now (book .entry)) at cell ⌝ }
 {
+    let t = cell.totals;
     book[at] = t.raw;
     book[at + 1] = t.score;
     book[at + 2] = t.lots;

@@ -1,20 +1,30 @@
 // How the schedule takes a record: refused, outside, or at a place of the book.
+use crate::activity::ACTIVITY_KIND;
+use crate::activity::CONTRACT;
+use crate::activity::DAY;
+use crate::activity::FIRM;
+use crate::activity::GROUP_FIRST;
+use crate::activity::GROUP_SECOND;
+use crate::activity::LENGTH;
 use crate::cells::cell_index;
+use calendar::days_in;
+use calendar::in_effect;
+use records::Status;
+use records::body_at;
+use records::contract_status;
 use schedule::FoundFirm;
 use schedule::FoundGroup;
 use schedule::Layout;
-use schedule::Status;
-use schedule::contract_status;
-use schedule::days_in;
 use schedule::find_firm;
 use schedule::find_group;
-use schedule::in_effect;
 use wire::byte_at;
 use wire::u16_at;
 ghost use mathlib.Core.Path.{_≡_};
 ghost use Prim.Native.Nat.{_≤_};
 ghost use lib.ListN.{length, drop};
 ghost use Rattle.wire.specs.Choose.{choose};
+ghost use Rattle.records.specs.Bodies.{bodyAt};
+ghost use Rattle.records.specs.Counted.{statusMeaning, statusOf};
 ghost use Rattle.book.specs.Post.{formCauses, listCauses, recordCauses};
 ghost use Rattle.book.specs.Filing.{FoundIs, FiledIs};
 
@@ -32,13 +42,20 @@ fn form_cause(record: &[u8]) -> u8
     if record.len() < 4 {
         return 11;
     }
-    if u16_at(record, 2) != 4 {
+    if u16_at(record, 2) != ACTIVITY_KIND {
         return 12;
     }
-    if (u16_at(record, 0) == 44) & (record.len() == 44) {
+    if (u16_at(record, 0) as usize == LENGTH) & (record.len() == LENGTH) {
         return 0;
     }
     13
+}
+
+// How the group whose record stands at a place takes a contract.
+fn status_at(schedule: &[u8], at: usize, contract: u16) -> Status
+    ensures { λ r. ⌜ statusMeaning r ≡ statusOf (bodyAt (now (schedule .entry)) at) contract ⌝ }
+{
+    contract_status(body_at(schedule, at), contract)
 }
 
 // Refusals 16 and 17, and whether the record is counted, where its firm and its group were found.
@@ -53,11 +70,11 @@ fn file_found(
     requires { ⌜ FoundIs (now schedule) l (now «record») firm group offset ⌝ }
     ensures { λ r. ⌜ FiledIs (now (schedule .entry)) l (now («record» .entry)) (drop 2 (listCauses (now (schedule .entry)) l (now («record» .entry)))) r ⌝ }
 {
-    let day = byte_at(record, 7);
+    let day = byte_at(record, DAY);
     if !((1 <= day) & (day <= days_in(l.month))) {
         return Filed::Refused(16);
     }
-    match contract_status(schedule, offset, u16_at(record, 10)) {
+    match status_at(schedule, offset, u16_at(record, CONTRACT)) {
         Status::Unlisted => Filed::Refused(17),
         Status::Listed => Filed::Outside,
         Status::Counted => {
@@ -74,20 +91,16 @@ fn file_listed(schedule: &[u8], l: Layout, record: &[u8]) -> Filed
     requires { ⌜ 7 ≤ length (now «record») ⌝ }
     ensures { λ r. ⌜ FiledIs (now (schedule .entry)) l (now («record» .entry)) (listCauses (now (schedule .entry)) l (now («record» .entry))) r ⌝ }
 {
-    match find_firm(schedule, l.start, l.firms, &record[4..7]) {
+    match find_firm(schedule, l, &record[FIRM..FIRM + 3]) {
         FoundFirm::Nothing => Filed::Refused(14),
         FoundFirm::At(firm) => match find_group(
             schedule,
-            l.groups,
-            byte_at(record, 8),
-            byte_at(record, 9),
+            l,
+            byte_at(record, GROUP_FIRST),
+            byte_at(record, GROUP_SECOND),
         ) {
             FoundGroup::Nothing => Filed::Refused(15),
-            FoundGroup::At {
-                index,
-                offset,
-                fields: _,
-            } => file_found(schedule, l, record, firm, index, offset),
+            FoundGroup::At { index, offset } => file_found(schedule, l, record, firm, index, offset),
         },
     }
 }

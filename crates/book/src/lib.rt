@@ -5,9 +5,13 @@ mod filing;
 mod opening;
 mod posting;
 
-pub use cells::cell;
+pub use activity::ACTIVITY_KIND;
+pub use cells::Cell;
+pub use cells::PER_FIRM_GROUP;
 pub use cells::check_book;
+pub use cells::totals_in;
 pub use opening::Opened;
+pub use opening::fill;
 pub use opening::open;
 pub use posting::Posted;
 pub use posting::post;

@@ -1,9 +1,10 @@
-// Opening a book.
+// Opening a book, and setting the numbers at a buffer's front.
 use crate::cells::book_size;
 use crate::cells::check_book;
 use schedule::Checked;
+use wire::least;
 ghost use mathlib.Core.Path.{_≡_};
-ghost use Prim.Native.Nat.{_≤_};
+ghost use Prim.Native.Nat.{min};
 ghost use lib.ListN.{length};
 ghost use Rattle.wire.specs.Lists.{table, over};
 ghost use Rattle.book.specs.Book.{OpenIs};
@@ -14,14 +15,14 @@ pub enum Opened {
     Done,
 }
 
-// Sets the first n numbers to zero.
-fn clear(book: &mut [u64], n: usize)
-    requires { ⌜ n ≤ length (now book) ⌝ }
-    ensures { λ _. ⌜ now (book .exit) ≡ over (table n (λ i. 0)) (now (book .entry)) ⌝ }
+// Sets the first n numbers to a value, all of them where there are no more.
+pub fn fill(numbers: &mut [u64], n: usize, value: u64)
+    ensures { λ _. ⌜ now (numbers .exit) ≡ over (table (min n (length (now (numbers .entry)))) (λ i. value)) (now (numbers .entry)) ⌝ }
 {
+    let most = least(n, numbers.len());
     let mut i: usize = 0;
-    while i < n {
-        book[i] = 0;
+    while i < most {
+        numbers[i] = value;
         i += 1;
     }
 }
@@ -33,7 +34,7 @@ pub fn open(schedule: &[u8], book: &mut [u64]) -> Opened
     match check_book(schedule, book.len()) {
         Checked::Refused { number, offset } => Opened::Refused { number, offset },
         Checked::Good(l) => {
-            clear(book, book_size(l));
+            fill(book, book_size(l), 0);
             Opened::Done
         }
     }

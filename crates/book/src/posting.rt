@@ -1,5 +1,6 @@
 // Posting a record to the book.
 use crate::activity::totals_of;
+use crate::cells::Cell;
 use crate::cells::cell_at;
 use crate::cells::check_book;
 use crate::cells::store_cell;
@@ -14,9 +15,9 @@ ghost use Prim.Native.Nat.{_+_, _≤_};
 ghost use lib.Dec.{leb};
 ghost use lib.ListN.{length};
 ghost use Rattle.rules.specs.Verdict.{limit, fits};
-ghost use Rattle.schedule.specs.Check.{good};
-ghost use Rattle.book.specs.Book.{checkBook};
-ghost use Rattle.book.specs.Post.{plus, PostIs};
+ghost use Rattle.schedule.specs.Outcome.{good};
+ghost use Rattle.book.specs.Book.{width, plus, checkBook};
+ghost use Rattle.book.specs.Post.{PostIs};
 ghost use Rattle.book.specs.Filing.{AddIs};
 
 // A refusal's number and offset, or what the post did: nothing, or the record was added to its cell.
@@ -45,22 +46,23 @@ fn can_add(held: Totals, more: Totals) -> bool
 
 // Adds to the cell at a place, unless a total would be above the limit.
 fn add(book: &mut [u64], at: usize, more: Totals) -> Posted
-    requires { ⌜ at + 3 ≤ length (now book) ⌝ }
+    requires { ⌜ at + width ≤ length (now book) ⌝ }
     ensures { λ r. ⌜ AddIs (now (book .entry)) at more r (now (book .exit)) ⌝ }
 {
-    let held = cell_at(book, at);
+    let cell = cell_at(book, at);
+    let held = cell.totals;
     if !can_add(held, more) {
         return Posted::Refused {
             number: 18,
             offset: 0,
         };
     }
-    let sum = Totals {
+    let totals = Totals {
         raw: held.raw + more.raw,
         score: held.score + more.score,
         lots: held.lots + more.lots,
     };
-    store_cell(book, at, sum);
+    store_cell(book, at, Cell { totals });
     Posted::Counted
 }
 

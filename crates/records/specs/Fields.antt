@@ -9,6 +9,7 @@ use lib.ListN.{length, getD}
 use Rattle.wire.specs.Bytes.{u16At, u32At}
 use Rattle.wire.specs.Choose.{all, some, within}
 use Rattle.calendar.specs.Calendar.{isMonth, daysIn}
+use Rattle.rules.specs.Verdict.{isBenchmark}
 use Rattle.records.specs.declared.fields.Head.{Head}
 use Rattle.records.specs.declared.fields.Group.{Group}
 use Rattle.records.specs.declared.fields.Firm.{Firm}
@@ -72,7 +73,7 @@ groupInRange g =
     ∷ isLetter (g .second)
     ∷ within 1 2 (g .grouping)
     ∷ within 1 64 (g .k)
-    ∷ within 1 100000 (g .benchmark)
+    ∷ isBenchmark (g .benchmark)
     ∷ within 1 4095 (g .front)
     ∷ within 0 4095 (g .extra)
     ∷ [])
@@ -89,12 +90,20 @@ firmFields B = record { first = getD B 0 0; second = getD B 1 0; third = getD B 
 unfoldable pub firmOk : Firm → Bool
 firmOk f = all (isLetter (f .first) ∷ isLetter (f .second) ∷ isLetter (f .third) ∷ [])
 
--- the firm has the code C; a code of another length is no firm's
-unfoldable pub hasCode : Firm → (C : List ℕ) → Bool
-hasCode f C =
+-- C is a code of three letters, those of A; a code of another length is nobody's
+abbrev pub sameCode : (A C : List ℕ) → Bool
+sameCode A C =
     all
     (eqb (length C) 3
-    ∷ eqb (f .first) (getD C 0 0)
-    ∷ eqb (f .second) (getD C 1 0)
-    ∷ eqb (f .third) (getD C 2 0)
+    ∷ eqb (getD A 0 0) (getD C 0 0)
+    ∷ eqb (getD A 1 0) (getD C 1 0)
+    ∷ eqb (getD A 2 0) (getD C 2 0)
     ∷ [])
+
+-- the three letters of a firm's code
+abbrev pub letters : Firm → List ℕ
+letters f = f .first ∷ f .second ∷ f .third ∷ []
+
+-- the firm has the code C
+unfoldable pub hasCode : Firm → (C : List ℕ) → Bool
+hasCode f C = sameCode (letters f) C

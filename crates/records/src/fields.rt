@@ -1,6 +1,7 @@
 // The fields of a record's body, which starts after length and kind, and their ranges.
 use calendar::days_in;
 use calendar::is_month;
+use rules::is_benchmark;
 use wire::byte_at;
 use wire::u16_at;
 use wire::u32_at;
@@ -122,7 +123,7 @@ fn group_in_range(g: Group) -> bool
         & is_letter(g.second)
         & within(1, 2, g.grouping as u32)
         & within(1, 64, g.k as u32)
-        & within(1, 100000, g.benchmark)
+        & is_benchmark(g.benchmark as u64)
         & within(1, 4095, g.front as u32)
         & within(0, 4095, g.extra as u32)
 }

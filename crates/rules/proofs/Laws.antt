@@ -2,9 +2,10 @@
 -- Assumes nothing.
 use native.Mathlib.Omega.{arith}
 use Rattle.wire.proofs.Implies.{follows}
-use Rattle.rules.specs.Verdict.{Rules, Falling, version96}
+use Rattle.rules.specs.Verdict.{Falling, version96}
 use Rattle.rules.specs.Laws.{Laws}
-use Rattle.rules.proofs.Verdict.{fails, severe, violation-falls, severe-falls}
+use Rattle.rules.specs.declared.Rules.{Rules}
+use Rattle.rules.proofs.Codes.{fails, severe, violation-falls, severe-falls}
 use Rattle.rules.proofs.Bills.{adds-up, dollars}
 use Rattle.rules.proofs.Lighter.{eased, exempt-stays, amount-lighter}
 

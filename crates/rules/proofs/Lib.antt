@@ -1,4 +1,4 @@
-pub mod Verdict
+pub mod Codes
 pub mod Marks
 pub mod Bills
 pub mod Lighter

@@ -12,12 +12,13 @@ use Rattle.wire.specs.Sums.{bit}
 use Rattle.wire.proofs.Bools.{and-left, and-right, cond-where}
 use Rattle.wire.proofs.Implies.{_⇒_, not-⇒, and-⇒, leb-⇒}
 use Rattle.wire.proofs.Sums.{sum-le}
-use Rattle.rules.specs.Verdict.{Rules, Falling, isViolation, isSevere}
+use Rattle.rules.specs.Verdict.{Falling, isViolation, isSevere}
 use Rattle.rules.specs.Month.{Terms, Cells, counted, overCounted, days, sums, exempt}
 use Rattle.rules.specs.Marks.{dayOf, groupOf, judged, amount}
 use Rattle.rules.specs.Lighter.{Lighter, LighterMonth}
+use Rattle.rules.specs.declared.Rules.{Rules}
 use Rattle.rules.specs.declared.Totals.{Totals}
-use Rattle.rules.proofs.Verdict.{Eased, exempt-code, violation-falls, severe-falls}
+use Rattle.rules.proofs.Codes.{Eased, exempt-code, violation-falls, severe-falls}
 use Rattle.rules.proofs.Marks.{Kind, none, ordinary, severe, kind}
 use Rattle.rules.proofs.Bills.{Milder, amount-falls}
 

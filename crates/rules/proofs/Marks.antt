@@ -12,8 +12,9 @@ use borrow.Author.Tests.{eqb-true}
 use Rattle.wire.specs.Choose.{choose}
 use Rattle.wire.specs.Sums.{bit, count}
 use Rattle.wire.proofs.Sums.{sum-same}
-use Rattle.rules.specs.Verdict.{Rules, isViolation, isSevere}
+use Rattle.rules.specs.Verdict.{isViolation, isSevere}
 use Rattle.rules.specs.Marks.{Judged, left, isBilled, mark}
+use Rattle.rules.specs.declared.Rules.{Rules}
 
 -- a code is 4, 5 or neither: f and s are those tests
 pub data Kind : (f s : Bool) → Type 0 where

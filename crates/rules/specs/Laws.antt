@@ -4,10 +4,11 @@ use Prim.Native.Nat.{ℕ, _+_, _*_, _≤_, _<_}
 use mathlib.Core.Bool.{true, _&&_}
 use mathlib.Core.Path.{_≡_}
 use lib.Dec.{ltb}
-use Rattle.rules.specs.Verdict.{Rules, exceeds, code, isViolation, isSevere}
+use Rattle.rules.specs.Verdict.{exceeds, code, isViolation, isSevere}
 use Rattle.rules.specs.Month.{Terms, Cells, exempt}
 use Rattle.rules.specs.Marks.{Judged, judged, violations, marked, billed, amount}
 use Rattle.rules.specs.Lighter.{Lighter, LighterMonth}
+use Rattle.rules.specs.declared.Rules.{Rules}
 use Rattle.rules.specs.declared.Totals.{Totals}
 
 -- the code n′ is no worse than n: a violation only where n is one, and severe only where n is
@@ -17,9 +18,9 @@ pub record NoWorse (n′ n : ℕ) : Type 0 where
 
 pub record Laws (P : Rules) : Type 0 where
   -- a day fails exactly when it has more messages than the first edge and its score exceeds its tier's benchmark times its lots
-  pub fails : (B d : ℕ) (t : Totals) → isViolation (code P B d t) ≡ ltb (P .edge₁ * d) (t .raw) && exceeds P B d t
+  pub fails : (B d : ℕ) (t : Totals) → isViolation (code P B d t) ≡ ltb (P .edge1 * d) (t .raw) && exceeds P B d t
   -- and is severe when the score also exceeds the severe multiple of that
-  pub severe : (B d : ℕ) (t : Totals) → isSevere (code P B d t) ≡ ltb (P .edge₁ * d) (t .raw) && (exceeds P B d t && exceeds P (P .severe * B) d t)
+  pub severe : (B d : ℕ) (t : Totals) → isSevere (code P B d t) ≡ ltb (P .edge1 * d) (t .raw) && (exceeds P B d t && exceeds P (P .severe * B) d t)
   -- lighter traffic is no worse a code
   pub lighter-code : (B d : ℕ) (t′ t : Totals) → Lighter t′ t → NoWorse (code P B d t′) (code P B d t)
   -- it keeps an exemption

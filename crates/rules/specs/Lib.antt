@@ -3,5 +3,6 @@ pub mod Month
 pub mod Marks
 pub mod Lighter
 pub mod Laws
+pub mod Bounds
 pub mod Marked
 pub mod Misread

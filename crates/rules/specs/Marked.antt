@@ -6,7 +6,7 @@ use mathlib.Core.List.{List, [], _∷_, map}
 use mathlib.Core.Path.{_≡_, refl}
 use lib.Dec.{eqb}
 use Rattle.wire.specs.Choose.{choose, all}
-use Rattle.rules.specs.Verdict.{version96, code, verdict}
+use Rattle.rules.specs.Verdict.{version96, code, dayVerdict}
 use Rattle.rules.specs.Month.{isExempt}
 
 -- a day and the code that is right for it, or an exempt month: d, R, S and V
@@ -15,7 +15,7 @@ pub data Case : Type 0 where
   month : (d raw score lots : ℕ) → Case
 
 abbrev pub right : Case → Bool
-right (day raw score lots n) = eqb (verdict 1 (record { raw = raw; score = score; lots = lots }) 1000) n
+right (day raw score lots n) = eqb (dayVerdict (record { raw = raw; score = score; lots = lots }) 1000) n
 right (month d raw score lots) = isExempt version96 1000 d (record { raw = raw; score = score; lots = lots })
 
 abbrev pub cases : List Case
@@ -35,5 +35,5 @@ cases =
     ∷ []
 
 pub all-right : all (map right cases) ≡ true
-unfolding all choose code verdict
+unfolding all choose code dayVerdict
 all-right = refl

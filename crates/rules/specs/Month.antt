@@ -4,7 +4,8 @@ use Prim.Native.Nat.{ℕ, _+_, _*_}
 use mathlib.Core.Bool.{Bool, cond, not, _&&_, _||_}
 use lib.Dec.{leb, ltb}
 use Rattle.wire.specs.Sums.{sum}
-use Rattle.rules.specs.Verdict.{Rules, exceeds}
+use Rattle.rules.specs.Verdict.{exceeds}
+use Rattle.rules.specs.declared.Rules.{Rules}
 use Rattle.rules.specs.declared.Totals.{Totals}
 
 -- what the schedule says of the month: how many groups it lists, which days (from 1) are in effect, and each group's benchmark and exchange
@@ -43,7 +44,7 @@ module _ (s : Terms) (c : Cells) where
 
 -- The month: exempt when R ≤ 20,000 × d, or when 100 × S ≤ B × m × V, of d counted days with the sums t
 abbrev pub isExempt : Rules → (B d : ℕ) → Totals → Bool
-isExempt P B d t = leb (t .raw) (P .edge₁ * d) || not (exceeds P B d t)
+isExempt P B d t = leb (t .raw) (P .edge1 * d) || not (exceeds P B d t)
 
 -- a group is exempt
 abbrev pub exempt : Rules → (s : Terms) → Cells → (g : ℕ) → Bool

@@ -1,37 +1,27 @@
 -- The Program's constants, and the codes of totals (document 01, "The day's verdict"; the Program, sections 2 to 5 and 8).
--- `Totals` is the struct of src/lib.rt: raw count, score and lots. They are those of d days: a day's own for d = 1, a month's sums for its d
--- counted days (document 01, "The month").
+-- `Rules` and `Totals` are the structs of src/lib.rt. Totals are those of d days: a day's own for d = 1, a month's sums for its d counted
+-- days (document 01, "The month").
 -- Assumes nothing.
 use Prim.Native.Nat.{ℕ, _*_, _≤_}
-use mathlib.Core.Bool.{Bool, not, _&&_, _||_}
+use mathlib.Core.Bool.{Bool, cond, not, _&&_, _||_}
 use mathlib.Core.List.{[], _∷_}
 use lib.Dec.{leb, ltb, eqb}
 use Rattle.wire.specs.Choose.{choose, all, within}
+use Rattle.rules.specs.declared.Rules.{Rules}
 use Rattle.rules.specs.declared.Totals.{Totals}
-
--- the Program's constants: the raw edges of the tiers and the tiers' factors, from low to high; the severe multiple; the automatic
--- waivers of a firm in an exchange grouping; the dollars of a billed day
-pub record Rules : Type 0 where
-  pub edge₁ : ℕ
-  pub edge₂ : ℕ
-  pub edge₃ : ℕ
-  pub factor₁ : ℕ
-  pub factor₂ : ℕ
-  pub factor₃ : ℕ
-  pub severe : ℕ
-  pub waivers : ℕ
-  pub dollars : ℕ
+use Rattle.rules.specs.declared.Verdict.{Verdict}
+use Rattle.rules.specs.declared.Verdict.the-variants as answer
 
 -- The day's verdict and The month: the numbers of version 9.6
 abbrev pub version96 : Rules
 version96 =
     record {
-      edge₁ = 20000;
-      edge₂ = 40000;
-      edge₃ = 60000;
-      factor₁ = 3;
-      factor₂ = 2;
-      factor₃ = 1;
+      edge1 = 20000;
+      edge2 = 40000;
+      edge3 = 60000;
+      factor1 = 3;
+      factor2 = 2;
+      factor3 = 1;
       severe = 6;
       waivers = 2;
       dollars = 1000;
@@ -39,17 +29,17 @@ version96 =
 
 -- factors do not grow with the tier: all that the laws ask of a set of constants
 pub record Falling (P : Rules) : Type 0 where
-  pub second : P .factor₂ ≤ P .factor₁
-  pub third : P .factor₃ ≤ P .factor₂
+  pub second : P .factor2 ≤ P .factor1
+  pub third : P .factor3 ≤ P .factor2
 
 module _ (P : Rules) where
   -- The month: a, b or c by a raw count against the second and the third edge of d days ("at or below: 3, 2; else 1")
   abbrev pub byTier : (d raw a b c : ℕ) → ℕ
-  byTier d raw a b c = choose ((leb raw (P .edge₂ * d), a) ∷ (leb raw (P .edge₃ * d), b) ∷ []) c
+  byTier d raw a b c = choose ((leb raw (P .edge2 * d), a) ∷ (leb raw (P .edge3 * d), b) ∷ []) c
 
   -- The day's verdict: the factor m is 3 for raw 20,001 to 40,000, 2 for 40,001 to 60,000, 1 above
   abbrev pub factor : (d raw : ℕ) → ℕ
-  factor d raw = byTier d raw (P .factor₁) (P .factor₂) (P .factor₃)
+  factor d raw = byTier d raw (P .factor1) (P .factor2) (P .factor3)
 
   -- The day's verdict: 100 × score > B × m × lots
   abbrev pub exceeds : (B d : ℕ) → Totals → Bool
@@ -60,7 +50,7 @@ module _ (P : Rules) where
   unfoldable pub code : (B d : ℕ) → Totals → ℕ
   code B d t =
       choose
-      ((leb (t .raw) (P .edge₁ * d), 0)
+      ((leb (t .raw) (P .edge1 * d), 0)
       ∷ (exceeds B d t && exceeds (P .severe * B) d t, 5)
       ∷ (exceeds B d t, 4)
       ∷ [])
@@ -82,9 +72,30 @@ limit = 10000000000
 abbrev pub fits : (d : ℕ) → Totals → Bool
 fits d t = all (leb (t .raw) (limit * d) ∷ leb (t .score) (limit * d) ∷ leb (t .lots) (limit * d) ∷ [])
 
--- Numbers of refusal, 24: totals above the limit, or B out of range; else the verdict on the totals of d days, 31 at the most, is their code
-unfoldable pub verdict : (d : ℕ) → Totals → (B : ℕ) → ℕ
-verdict d t B =
-    choose
-    ((ltb 31 d, 24) ∷ (not (fits d t), 24) ∷ (not (within 1 100000 B), 24) ∷ [])
-    (code version96 B d t)
+-- The day's verdict: B is the group's benchmark in hundredths, 1 to 100,000
+abbrev pub isBenchmark : (B : ℕ) → Bool
+isBenchmark B = within 1 100000 B
+
+-- Numbers of refusal, 24: totals above the limit, d times over, or B out of range
+abbrev pub isRefused : (d : ℕ) → Totals → (B : ℕ) → Bool
+isRefused d t B = not (fits d t && isBenchmark B)
+
+-- what the totals of d days come to: a code, a refusal's number, or more days than a month has, which no number of the papers is for
+pub data Judgement : Type 0 where
+  coded : ℕ → Judgement
+  refusal : ℕ → Judgement
+  tooManyDays : Judgement
+
+-- what a verdict means
+abbrev pub verdictMeaning : Verdict → Judgement
+verdictMeaning (answer.Code n) = coded n
+verdictMeaning answer.Refused = refusal 24
+verdictMeaning answer.TooManyDays = tooManyDays
+
+-- the verdict on the totals of d days, top to bottom
+unfoldable pub verdict : (d : ℕ) → Totals → (B : ℕ) → Judgement
+verdict d t B = choose ((ltb 31 d, tooManyDays) ∷ (isRefused d t B, refusal 24) ∷ []) (coded (code version96 B d t))
+
+-- The day's verdict, which takes raw, score, lots and B as numbers: a day's code, or 24
+unfoldable pub dayVerdict : Totals → (B : ℕ) → ℕ
+dayVerdict t B = cond (isRefused 1 t B) 24 (code version96 B 1 t)

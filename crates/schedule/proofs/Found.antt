@@ -6,6 +6,7 @@ use mathlib.Core.List.{List}
 use mathlib.Core.Path.{_≡_, sym, ap, _∙_}
 use Rattle.wire.specs.Choose.{within}
 use Rattle.wire.proofs.Choose.{each, none-at}
+use Rattle.rules.specs.Verdict.{isBenchmark}
 use Rattle.records.specs.Fields.{isLetter, groupInRange}
 use Rattle.records.specs.declared.fields.Group.{Group}
 use Rattle.schedule.specs.Outcome.{good}
@@ -26,7 +27,7 @@ pub record InRange (g : Group) : Type 0 where
   pub second : isLetter (g .second) ≡ true
   pub grouping : within 1 2 (g .grouping) ≡ true
   pub k : within 1 64 (g .k) ≡ true
-  pub benchmark : within 1 100000 (g .benchmark) ≡ true
+  pub benchmark : isBenchmark (g .benchmark) ≡ true
   pub front : within 1 4095 (g .front) ≡ true
   pub extra : within 0 4095 (g .extra) ≡ true
 

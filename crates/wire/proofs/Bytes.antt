@@ -28,14 +28,14 @@ module _ (xs ys : List ℕ) (i : ℕ) where
   unfolding u16At
   u16-behind =
       let next : length xs + i + 1 ≡ length xs + (i + 1) = omega arith in
-      rw (next, getD-append-add, getD-append-add)
+      rw (next, getD-append-add xs ys i 0, getD-append-add xs ys (i + 1) 0)
 
 module _ (xs ys : List ℕ) (i : ℕ) where
   pub u32-behind : u32At (xs ++ ys) (length xs + i) ≡ u32At ys i
   unfolding u32At
   u32-behind =
       let next : length xs + i + 2 ≡ length xs + (i + 2) = omega arith in
-      rw (next, u16-behind, u16-behind)
+      rw (next, u16-behind xs ys i, u16-behind xs ys (i + 2))
 
 -- a number within its range, written and read again, is itself
 two-bytes : (n : ℕ) → n < 65536 → n % 256 + 256 * (n / 256 % 256) ≡ n
@@ -55,8 +55,8 @@ u32-again n rest h =
 -- a number read behind a place
 pub u16-drop : (R : List ℕ) (at i : ℕ) → u16At (drop at R) i ≡ u16At R (at + i)
 unfolding u16At
-u16-drop R at i = rw (getD-drop, getD-drop, add-assoc)
+u16-drop R at i = rw (getD-drop at R i 0, getD-drop at R (i + 1) 0, add-assoc)
 
 pub u32-drop : (R : List ℕ) (at i : ℕ) → u32At (drop at R) i ≡ u32At R (at + i)
 unfolding u32At
-u32-drop R at i = rw (u16-drop, u16-drop, add-assoc)
+u32-drop R at i = rw (u16-drop R at i, u16-drop R at (i + 2), add-assoc)

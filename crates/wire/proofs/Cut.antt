@@ -77,7 +77,9 @@ cut-next S h = go (length S) refl
     go (suc n) e =
         let taken = first-in S .some h in
         let left = length-drop (firstLength S) S in
-        rw (ne-eqb (length S) 0 (λ z. omega arith)) (ap (λ rs. take (firstLength S) S ∷ rs) (fuel-any n (length (drop (firstLength S) S)) (drop (firstLength S) S) (omega (arith, taken, left)) (le-refl _)))
+        let rest = drop (firstLength S) S in
+        rw (ne-eqb (length S) 0 (λ z. omega arith))
+        (ap (λ rs. take (firstLength S) S ∷ rs) (fuel-any n (length rest) rest (omega (arith, taken, left)) (le-refl _)))
 
 -- what a loop over a run S knows at the place `at`, where it measured a record of `len` bytes: that is the first record from there on, it has a byte,
 -- and it lies within the run

@@ -7,7 +7,14 @@ use Rattle.book.proofs.activity.totals_of.Tie as tie
 
 returns : tie.Need-returns
 unfolding totalsOf
-returns c = rw (c .before .before .before .before .before .before .u32-at .ensures, c .before .before .before .before .before .u32-at2 .ensures, c .before .before .before .before .u32-at3 .ensures, c .before .before .before .u32-at4 .ensures, c .before .before .u32-at5 .ensures, c .before .u32-at6 .ensures, c .u32-at7 .ensures)
+returns c =
+    let six = c .before in
+    let five = six .before in
+    let four = five .before in
+    let three = four .before in
+    let two = three .before in
+    rw
+    (two .before .u32-at .ensures, two .u32-at2 .ensures, three .u32-at3 .ensures, four .u32-at4 .ensures, five .u32-at5 .ensures, six .u32-at6 .ensures, c .u32-at7 .ensures)
 
 pub totals-of-spec : {M : Type 1} → statement M
 totals-of-spec =

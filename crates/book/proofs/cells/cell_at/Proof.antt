@@ -1,4 +1,4 @@
--- The three numbers are those at the place and the two after.
+-- The numbers are those at the place and the two after, each 0 past the book's end, as in the definition.
 -- Assumes nothing.
 use borrow.Author.Needs.{needs}
 use Rattle.book.proofs.cells.cell_at.Statement.{statement}

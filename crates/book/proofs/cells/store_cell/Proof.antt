@@ -1,21 +1,21 @@
--- Three stores in a row put a list of three in place.
+-- Stores in a row put the list of a cell's numbers in place.
 -- Assumes nothing.
 use Prim.Native.Nat.{suc, _+_}
-use mathlib.Core.List.{[], _∷_}
 use mathlib.Core.Path.{_≡_}
 use native.Mathlib.Omega.{arith}
 use lib.ListN.{length-set}
 use lib.Seq.{sets-eq}
 use borrow.Author.Needs.{needs}
+use Rattle.book.specs.Book.{numbersOf}
 use Rattle.book.proofs.cells.store_cell.Statement.{statement}
 use Rattle.book.proofs.cells.store_cell.Tie as tie
 
 returns : tie.Need-returns
 returns c =
-    let p : c .args .at + 1 ≡ suc (c .args .at) = omega arith in
-    let q : c .args .at + 2 ≡ suc (suc (c .args .at)) = omega arith in
-    rw (p, q)
-    (sets-eq (c .args .t .raw ∷ c .args .t .score ∷ c .args .t .lots ∷ []) (c .args .book .now) (c .args .at) (c .pre))
+    let a = c .before .args in
+    let p : a .at + 1 ≡ suc (a .at) = omega arith in
+    let q : a .at + 2 ≡ suc (suc (a .at)) = omega arith in
+    rw (p, q) (sets-eq (numbersOf (a .cell)) (a .book .now) (a .at) (c .before .pre))
 
 pub store-cell-spec : {M : Type 1} → statement M
 store-cell-spec =

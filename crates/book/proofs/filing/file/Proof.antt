@@ -1,5 +1,7 @@
--- The first table decides where it refuses, and then the record has 44 bytes; else the second does.
+-- Where the first table refuses the record, it decides. Where it does not, the record has 44 bytes, as the rest asks, and the second table
+-- decides.
 -- Assumes nothing.
+use mathlib.Core.Bool.{_&&_}
 use mathlib.Core.Path.{refl, sym, _∙_}
 use native.Mathlib.Omega.{arith}
 use lib.Dec.{eqb}
@@ -9,7 +11,8 @@ use borrow.Author.Needs.{needs}
 use borrow.Author.Tests.{eqb-true, not-false}
 use Rattle.wire.proofs.Bools.{and-right}
 use Rattle.wire.proofs.Choose.{choose-first, choose-second, Passed, passed}
-use Rattle.schedule.specs.Lookup.{lengthAt}
+use Rattle.records.specs.Bodies.{lengthAt}
+use Rattle.book.specs.Activity.{activityLength}
 use Rattle.book.specs.Post.{formCauses, listCauses, recordCauses}
 use Rattle.book.proofs.Answers.{filed-same}
 use Rattle.book.proofs.filing.file.Statement.{statement}
@@ -25,7 +28,8 @@ returns c = record { first = choose-first _ _ (sym (c .before .form-cause .ensur
 file-listed-requires : tie.Need-file-listed-requires
 file-listed-requires c κs =
     let R = now (c .before .before .before .before .args .«record») in
-    omega (arith, eqb-true (length R) 44 (and-right (eqb (lengthAt R 0) 44) (eqb (length R) 44) (not-false _ (form-passed c .1 .1 .0))))
+    let both = not-false (eqb (lengthAt R 0) activityLength && eqb (length R) activityLength) (form-passed c .1 .1 .0) in
+    omega (arith, eqb-true (length R) activityLength (and-right (eqb (lengthAt R 0) activityLength) (eqb (length R) activityLength) both))
 
 returns-2 : tie.Need-returns-2
 returns-2 c =

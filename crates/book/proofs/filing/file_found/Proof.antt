@@ -11,39 +11,52 @@ use borrow.Author.Tests.{not-false}
 use Rattle.wire.specs.Choose.{within}
 use Rattle.wire.proofs.Bools.{yes, no, range}
 use Rattle.wire.proofs.Choose.{here, next, done, chosen}
-use Rattle.schedule.specs.Calendar.{daysIn}
-use Rattle.schedule.specs.Counted.{statusMeaning, statusOf, contractListed, contractCounted}
-use Rattle.schedule.specs.declared.counted.Status.{Status}
-use Rattle.schedule.specs.declared.counted.Status.the-variants as kind
-use Rattle.schedule.proofs.Status.{isListed, isCounted, status-listed, status-counted}
-use Rattle.book.specs.Activity.{day, contract}
+use Rattle.calendar.specs.Calendar.{daysIn}
+use Rattle.records.specs.Counted.{statusMeaning, statusOf, contractListed, contractCounted}
+use Rattle.records.specs.declared.counted.Status.{Status}
+use Rattle.records.specs.declared.counted.Status.the-variants as kind
+use Rattle.records.proofs.Status.{saysListed, saysCounted, status-listed, status-counted}
+use Rattle.book.specs.Activity.{day, contractOf}
 use Rattle.book.specs.Post.{groupBody}
 use Rattle.book.proofs.filing.file_found.Statement.{statement}
 use Rattle.book.proofs.filing.file_found.Tie as tie
 
--- from a place at which 16 was not met
-in-month : (c : tie.Else1) → let a = c .before .before .before .before .before .args in not (within 1 (daysIn (a .l .month)) (day (now (a .«record»)))) ≡ false
+-- the places that the answers go back to: the start, past 16, the contract's status, and the arm of a counted contract
+abbrev start : tie.Else1 → tie.Start
+start c = c .before .before .before .before .before
+
+abbrev past16 : tie.After-status-at → tie.Else1
+past16 c = c .before .before
+
+abbrev counted-arm : tie.After-enum-told3 → tie.After-status-at
+counted-arm c = c .before .before
+
+-- the record's day, and its place in the month where 16 was not met
+day-read : (c : tie.Else1) → c .before .before .byte-at .result ≡ day (now (start c .args .«record»))
+day-read c = c .before .before .byte-at .ensures
+
+in-month : (c : tie.Else1) → let a = start c .args in not (within 1 (daysIn (a .l .month)) (day (now (a .«record»)))) ≡ false
 in-month c = rw (c .before .before .byte-at .ensures, c .before .days-in .ensures) at (c .if1 .left)
 
--- how the group takes the record's contract
-status : (c : tie.After-contract-status) → let a = c .before .before .before .before .before .before .before .args in statusMeaning (c .contract-status .result) ≡ statusOf (groupBody (now (a .schedule)) (a .l) (now (a .«record»))) (contract (now (a .«record»)))
-status c =
-    let p = c .before .before .before .before .before .before .before .pre in
-    rw (c .before .u16-at .ensures, p .offsetIs) at (c .contract-status .ensures)
-
--- so whether it is listed and counted, where the status is k
-module _ (c : tie.After-contract-status) (k : Status) (e : c .contract-status .result ≡ k) where
+-- the record's group and contract
+module _ (c : tie.After-status-at) where
   abbrev body : List ℕ
-  body = let a = c .before .before .before .before .before .before .before .args in groupBody (now (a .schedule)) (a .l) (now (a .«record»))
+  body = let a = start (past16 c) .args in groupBody (now (a .schedule)) (a .l) (now (a .«record»))
 
   abbrev month : ℕ
-  month = contract (now (c .before .before .before .before .before .before .before .args .«record»))
+  month = contractOf (now (start (past16 c) .args .«record»))
 
-  listed : contractListed body month ≡ isListed (statusMeaning k)
-  listed = sym (status-listed body month) ∙ ap isListed (sym (status c)) ∙ ap (λ s. isListed (statusMeaning s)) e
+  -- how the group takes the contract
+  status : statusMeaning (c .status-at .result) ≡ statusOf body month
+  status = rw (c .before .u16-at .ensures, start (past16 c) .pre .offsetIs) at (c .status-at .ensures)
 
-  taken : isListed (statusMeaning k) ≡ true → contractCounted body month ≡ isCounted (statusMeaning k)
-  taken h = sym (status-counted body month (listed ∙ h)) ∙ ap isCounted (sym (status c)) ∙ ap (λ s. isCounted (statusMeaning s)) e
+  -- so whether it is listed and counted, where the status is k
+  module _ (k : Status) (e : c .status-at .result ≡ k) where
+    listed : contractListed body month ≡ saysListed (statusMeaning k)
+    listed = sym (status-listed body month) ∙ ap saysListed (sym status) ∙ ap (λ s. saysListed (statusMeaning s)) e
+
+    taken : saysListed (statusMeaning k) ≡ true → contractCounted body month ≡ saysCounted (statusMeaning k)
+    taken h = sym (status-counted body month (listed ∙ h)) ∙ ap saysCounted (sym status) ∙ ap (λ s. saysCounted (statusMeaning s)) e
 
 returns : tie.Need-returns
 returns c =
@@ -54,46 +67,46 @@ returns c =
 
 returns-2 : tie.Need-returns-2
 returns-2 c =
-    let s = c .before .before .before .before in
+    let s = counted-arm (c .before .before) in
     let known = listed s kind.Counted (c .before .before .enum-told3 .given .1) in
-    let closed = rw (s .before .before .before .before .byte-at .ensures) at (no (c .before .in-effect .ensures) (c .if2 .taken)) in
-    record { none = chosen (next (in-month (s .before .before)) (next (ap not known) done)); counted = rw closed refl }
+    let closed = rw (day-read (past16 s)) at (no (c .before .in-effect .ensures) (c .if2 .taken)) in
+    record { none = chosen (next (in-month (past16 s)) (next (ap not known) done)); counted = rw closed refl }
 
 cell-index-requires : tie.Need-cell-index-requires
 cell-index-requires c κs =
-    let p = c .before .before .before .before .before .before .before .before .before .before .before .pre in
-    let f : c .before .before .before .before .before .before .before .before .before .before .before .args .l .firms ≤ 255 = search needs in
-    let g : c .before .before .before .before .before .before .before .before .before .before .before .args .l .groups ≤ 255 = search needs in
-    let d = range 1 _ _ (not-false _ (c .before .before .before .before .before .before .if1 .left)) in
-    (omega (arith, p .firmMost), omega (arith, p .groupMost), d .least)
+    let m = past16 (counted-arm (c .before .before)) in
+    let f : start m .args .l .firms ≤ 255 = omega (arith, start m .good) in
+    let g : start m .args .l .groups ≤ 255 = omega (arith, start m .good) in
+    (omega (arith, start m .pre .firmMost), omega (arith, start m .pre .groupMost), range 1 _ _ (not-false _ (m .if1 .left)) .least)
 
 returns-3 : tie.Need-returns-3
 returns-3 c =
     let s = c .before .before in
     let unknown = listed s kind.Unlisted (c .enum-told .given .1) in
-    record { first = chosen (next (in-month (s .before .before)) (here (ap not unknown))); some = omega arith }
+    record { first = chosen (next (in-month (past16 s)) (here (ap not unknown))); some = omega arith }
 
 returns-4 : tie.Need-returns-4
 returns-4 c =
     let s = c .before .before in
     let known = listed s kind.Listed (c .enum-told2 .given .1) in
     record {
-      none = chosen (next (in-month (s .before .before)) (next (ap not known) done));
+      none = chosen (next (in-month (past16 s)) (next (ap not known) done));
       counted = rw (taken s kind.Listed (c .enum-told2 .given .1) refl, and-false) refl;
     }
 
 returns-5 : tie.Need-returns-5
 returns-5 c =
-    let s = c .before .before .before .before .before in
-    let told = c .before .before .before .enum-told3 .given .1 in
-    let day = s .before .before .before .before .byte-at .ensures in
-    let p = s .before .before .before .before .before .before .before .pre in
-    let effective = rw day at (yes (c .before .before .in-effect .ensures) (c .before .if2 .left)) in (
+    let k = c .before .before .before in
+    let s = counted-arm k in
+    let m = k .before .before .before .before in
+    let p = m .before .before .before .before .before .pre in
+    let told = k .enum-told3 .given .1 in
+    let effective = rw (day-read m) at (yes (c .before .before .in-effect .ensures) (c .before .if2 .left)) in (
       record {
-        none = chosen (next (in-month (s .before .before)) (next (ap not (listed s kind.Counted told)) done));
+        none = chosen (next (in-month m) (next (ap not (listed s kind.Counted told)) done));
         counted = rw (effective, taken s kind.Counted told refl) refl;
       },
-      rw (day, p .firmIs, p .groupIs) at (c .cell-index .ensures),
+      rw (m .before .before .byte-at .ensures, p .firmIs, p .groupIs) at (c .cell-index .ensures),
     )
 
 pub file-found-spec : {M : Type 1} → statement M

@@ -8,7 +8,7 @@ use denote.Ref.{now}
 use borrow.Author.Needs.{needs}
 use Rattle.wire.specs.Choose.{choose}
 use Rattle.wire.proofs.Choose.{here, next, chosen}
-use Rattle.schedule.specs.Lookup.{firmIs, firmListed, firmMeaning, groupIs, groupListed, groupMeaning, groupFound}
+use Rattle.schedule.specs.Lookup.{firmIs, firmListed, firmMeaning, groupListed, groupMeaning, groupFound}
 use Rattle.schedule.proofs.Laws.{FoundAt, firm-found, firm-unlisted, group-found, group-placed, group-unlisted}
 use Rattle.book.specs.Post.{listCauses}
 use Rattle.book.specs.Activity.{firmCode, groupFirst, groupSecond}
@@ -16,17 +16,28 @@ use Rattle.book.proofs.Answers.{filed-same}
 use Rattle.book.proofs.filing.file_listed.Statement.{statement}
 use Rattle.book.proofs.filing.file_listed.Tie as tie
 
--- the firm and the group that were found
-firm : (c : tie.After-known-told) → let a = c .before .before .before .before .before .before .before .args in FoundAt (a .l .firms) (firmIs (now (a .schedule)) (a .l .start) (firmCode (now (a .«record»)))) (c .before .firm .given .0 .0)
-firm c = firm-found _ _ _ _ (sym (ap firmMeaning (c .before .firm .given .1)) ∙ c .before .before .before .find-firm .ensures)
+-- the places that the answers go back to: the start, the firm that was found, and the search for the group
+abbrev start : tie.After-known-told → tie.Start
+start c = c .before .before .before .before .before .before .before
 
-group-told : (c : tie.After-known-told2) → let a = c .before .before .before .before .before .before .before .before .before .before .before .before .before .args in groupMeaning (c .before .before .before .find-group .result) ≡ groupFound (now (a .schedule)) (a .l .groups) (groupFirst (now (a .«record»))) (groupSecond (now (a .«record»)))
-group-told c = rw (c .before .before .before .before .before .byte-at .ensures, c .before .before .before .before .byte-at2 .ensures) at (c .before .before .before .find-group .ensures)
+abbrev firm-arm : tie.After-find-group → tie.After-known-told
+firm-arm c = c .before .before .before
+
+-- the firm that was found
+firm : (c : tie.After-known-told) → let a = start c .args in
+    FoundAt (a .l .firms) (firmIs (now (a .schedule)) (a .l .start) (firmCode (now (a .«record»)))) (c .before .firm .given .0 .0)
+firm c = firm-found _ _ _ (sym (ap firmMeaning (c .before .firm .given .1)) ∙ c .before .before .before .find-firm .ensures)
+
+-- what the search for the group tells
+group-told : (c : tie.After-find-group) → let a = start (firm-arm c) .args in
+    groupMeaning (c .find-group .result) ≡ groupFound (now (a .schedule)) (a .l) (groupFirst (now (a .«record»))) (groupSecond (now (a .«record»)))
+group-told c = rw (c .before .before .byte-at .ensures, c .before .byte-at2 .ensures) at (c .find-group .ensures)
 
 file-found-requires : tie.Need-file-found-requires
 file-found-requires c κs =
-    let f = firm (c .before .before .before .before .before .before) in
-    let e = sym (ap groupMeaning (c .before .index .given .1)) ∙ group-told c in
+    let s = c .before .before .before in
+    let f = firm (firm-arm s) in
+    let e = sym (ap groupMeaning (c .before .index .given .1)) ∙ group-told s in
     let g = group-found _ _ _ _ e in
     record {
       firmIs = sym (f .first);
@@ -38,25 +49,25 @@ file-found-requires c κs =
 
 returns : tie.Need-returns
 returns c =
-    let no = firm-unlisted _ _ _ _ (sym (ap firmMeaning (c .enum-told .given .1)) ∙ c .before .before .find-firm .ensures) in
+    let no = firm-unlisted _ _ _ (sym (ap firmMeaning (c .enum-told .given .1)) ∙ c .before .before .find-firm .ensures) in
     record { first = chosen (here (ap not no)); some = omega arith }
 
 returns-2 : tie.Need-returns-2
 unfolding firmListed
 returns-2 c =
-    let f = firm (c .before .before .before .before .before) in
-    let e = rw (c .before .before .before .before .byte-at .ensures, c .before .before .before .byte-at2 .ensures) at (c .before .before .find-group .ensures) in
-    let no = group-unlisted _ _ _ _ (sym (ap groupMeaning (c .enum-told2 .given .1)) ∙ e) in
-    record { first = chosen (next (ap not (f .listed)) (here (ap not no))); some = omega arith }
+    let s = c .before .before in
+    let no = group-unlisted _ _ _ _ (sym (ap groupMeaning (c .enum-told2 .given .1)) ∙ group-told s) in
+    record { first = chosen (next (ap not (firm (firm-arm s) .listed)) (here (ap not no))); some = omega arith }
 
 returns-3 : tie.Need-returns-3
 unfolding firmListed groupListed choose
 returns-3 c =
-    let a = c .before .before .before .before .before .before .before .before .before .before .before .before .before .before .args in
+    let s = c .before .before .before .before in
+    let a = start (firm-arm s) .args in
     let S = now (a .schedule) in
     let R = now (a .«record») in
-    let f = ap not (firm (c .before .before .before .before .before .before .before) .listed) in
-    let g = ap not (group-found S (a .l .groups) (groupFirst R) (groupSecond R) (sym (ap groupMeaning (c .before .before .index .given .1)) ∙ group-told (c .before)) .listed) in
+    let f = ap not (firm (firm-arm s) .listed) in
+    let g = ap not (group-found S (a .l) (groupFirst R) (groupSecond R) (sym (ap groupMeaning (c .before .before .index .given .1)) ∙ group-told s) .listed) in
     let same : choose (listCauses S (a .l) R) 0 ≡ choose (drop 2 (listCauses S (a .l) R)) 0 = rw (f, g) refl in
     filed-same S (a .l) R (drop 2 (listCauses S (a .l) R)) (listCauses S (a .l) R) (sym same) (c .file-found .result) (c .file-found .ensures)
 
@@ -64,6 +75,7 @@ pub file-listed-spec : {M : Type 1} → statement M
 file-listed-spec =
     tie.close
     (tie.spec
+    (λ c. search needs)
     (λ c. search needs)
     (λ c. search needs)
     (λ c. search needs)

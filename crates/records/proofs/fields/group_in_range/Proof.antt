@@ -18,10 +18,10 @@ joined p q r s t u v = rw (p, q, r, s, t, u, v) (and-all _ _)
 returns : tie.Need-returns
 unfolding groupInRange
 returns c =
-    let n = c .before .before .before .before .before .before .before in
-    joined (n .before .before .before .is-letter .ensures) (n .before .before .is-letter2 .ensures) (n .within .ensures)
-    (c .before .before .before .before .before .within2 .ensures) (c .before .before .before .before .within3 .ensures)
-    (c .before .before .within4 .ensures) (c .within5 .ensures)
+    let k = c .before .before .before .before .before .before in
+    let e = k .before .before in
+    joined (e .before .before .before .is-letter .ensures) (e .before .before .is-letter2 .ensures) (e .within .ensures)
+    (k .within2 .ensures) (c .before .before .before .before .is-benchmark .ensures) (c .before .before .within3 .ensures) (c .within4 .ensures)
 
 pub group-in-range-spec : {M : Type 1} → statement M
 group-in-range-spec =
@@ -33,6 +33,7 @@ group-in-range-spec =
     (λ c κs. search needs)
     (λ c. search needs)
     (λ c κs. search needs)
+    (λ c. search needs)
     (λ c κs. search needs)
     (λ c. search needs)
     (λ c κs. search needs)

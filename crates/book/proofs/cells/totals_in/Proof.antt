@@ -2,7 +2,7 @@
 -- Assumes nothing.
 use Prim.Native.Nat.{_≤_, _<_}
 use mathlib.Core.Bool.{true, false, _&&_}
-use mathlib.Core.Path.{_≡_}
+use mathlib.Core.Path.{_≡_, ap}
 use native.Mathlib.Nat.{mul-le-mul}
 use native.Mathlib.Omega.{arith}
 use lib.Dec.{ltb}
@@ -10,20 +10,25 @@ use borrow.Author.Needs.{needs}
 use borrow.Author.Tests.{not-true, not-false}
 use Rattle.wire.specs.Choose.{within}
 use Rattle.wire.proofs.Bools.{and-right, range}
-use Rattle.book.proofs.cells.cell.Statement.{statement}
-use Rattle.book.proofs.cells.cell.Tie as tie
+use Rattle.book.specs.Book.{totalsIn}
+use Rattle.book.specs.declared.cells.Cell.{Cell}
+use Rattle.book.proofs.cells.totals_in.Statement.{statement}
+use Rattle.book.proofs.cells.totals_in.Tie as tie
+
+-- past the test the cell has a place
+there : (c : tie.Else1) → let a = c .before .before .args in (ltb (a .group) (a .groups) && within 1 31 (a .day)) ≡ true
+there c = not-false _ (c .if1 .left)
 
 returns : tie.Need-returns
 returns c =
     let a = c .before .before .args in
     let e : (ltb (a .group) (a .groups) && within 1 31 (a .day)) ≡ false = not-true _ (c .if1 .taken) in
-    rw e
+    rw (totalsIn, e)
 
 cell-index-requires : tie.Need-cell-index-requires
 cell-index-requires c κs =
     let a = c .before .before .args in
-    let e : (ltb (a .group) (a .groups) && within 1 31 (a .day)) ≡ true = not-false _ (c .if1 .left) in
-    let d = range 1 31 (a .day) (and-right (ltb (a .group) (a .groups)) (within 1 31 (a .day)) e) in
+    let d = range 1 31 (a .day) (and-right (ltb (a .group) (a .groups)) (within 1 31 (a .day)) (there c)) in
     let f : a .firm < 256 = search needs in
     let g : a .group < 256 = search needs in
     (f, g, d .least)
@@ -37,9 +42,8 @@ cell-at-requires c κs =
 
 returns-2 : tie.Need-returns-2
 returns-2 c =
-    let a = c .before .before .before .before .args in
-    let e : (ltb (a .group) (a .groups) && within 1 31 (a .day)) ≡ true = not-false _ (c .before .before .if1 .left) in
-    rw (e, ← c .before .cell-index .ensures) (c .cell-at .ensures)
+    rw (totalsIn, there (c .before .before .before), ← c .before .before .cell-index .ensures)
+    (ap (λ (e : Cell). e .totals) (c .before .cell-at .ensures))
 
-pub cell-spec : {M : Type 1} → statement M
-cell-spec = tie.close (tie.spec returns cell-index-requires cell-at-requires returns-2)
+pub totals-in-spec : {M : Type 1} → statement M
+totals-in-spec = tie.close (tie.spec returns cell-index-requires cell-at-requires returns-2)

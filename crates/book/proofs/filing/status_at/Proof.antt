@@ -1,0 +1,11 @@
+-- The body is the definition's, and so is its answer.
+-- Assumes nothing.
+use borrow.Author.Needs.{needs}
+use Rattle.book.proofs.filing.status_at.Statement.{statement}
+use Rattle.book.proofs.filing.status_at.Tie as tie
+
+returns : tie.Need-returns
+returns c = rw (c .before .body-at .ensures) at (c .contract-status .ensures)
+
+pub status-at-spec : {M : Type 1} → statement M
+status-at-spec = tie.close (tie.spec (λ c κs. search needs) (λ c κs. search needs) returns)
