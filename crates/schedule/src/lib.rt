@@ -1,7 +1,9 @@
 // The schedule: the check of its records, and the lookups in a good one.
+mod force;
 mod lookup;
 mod scan;
 
+pub use force::rules_of;
 pub use lookup::FoundFirm;
 pub use lookup::FoundGroup;
 pub use lookup::Layout;

@@ -17,14 +17,17 @@ use Rattle.wire.proofs.Sums.{sum-same}
 use Rattle.rules.specs.Verdict.{version96}
 use Rattle.rules.specs.Month.{Cells}
 use Rattle.rules.specs.Marks.{places, groupOf, mark}
-use Rattle.schedule.specs.Check.{Outcome, refused, good}
+use Rattle.schedule.specs.Outcome.{Outcome, refused, good}
 use Rattle.schedule.specs.Lookup.{groupAt, firmListed}
-use Rattle.schedule.specs.declared.scan.Layout.{Layout}
+use Rattle.schedule.specs.declared.lookup.Layout.{Layout}
 use Rattle.schedule.proofs.Good.{refused-good}
-use Rattle.book.specs.Book.{cells, checkBook}
+use Rattle.book.specs.Book.{totalsIn, checkBook}
 use Rattle.statement.specs.Lines.{shown}
-use Rattle.statement.specs.Statement.{monthOf, statementBytes, spoilt, need, firmMonth, causes, cause, statementAnswer, StatementIs}
-use Rattle.statement.specs.Parts.{ListedAt, groupingsOf, heldMark, heldGrouping}
+use Rattle.month.specs.Month.{monthOf, anyExcess, firmMonth}
+use Rattle.statement.specs.Statement.{statementBytes, need, causes, cause, statementAnswer, StatementIs}
+use Rattle.month.specs.Parts.{ListedAt, heldGrouping}
+use Rattle.month.specs.Month.{groupingsOf}
+use Rattle.statement.specs.Parts.{heldMark}
 use Rattle.statement.specs.declared.Stated.the-variants as stated
 use Rattle.statement.proofs.Shown.{marks-count, bytes-length, shown-same}
 

@@ -12,8 +12,8 @@ use Rattle.wire.proofs.Bools.{and-left, and-right, range}
 use Rattle.wire.proofs.Sums.{count-all}
 use Rattle.rules.specs.Lighter.{Lighter}
 use Rattle.rules.specs.declared.Totals.{Totals}
-use Rattle.schedule.specs.Calendar.{daysIn, inEffect}
-use Rattle.schedule.proofs.Laws.{days-most}
+use Rattle.calendar.specs.Calendar.{daysIn, inEffect}
+use Rattle.calendar.proofs.Laws.{days-most}
 use Rattle.statement.specs.Demand3.{layout, totalsAfter, Falls}
 use Rattle.statement.specs.Example.{isLighter, isKept, daysWhere, Applies, example}
 

@@ -25,22 +25,24 @@ use Rattle.rules.specs.Month.{Cells}
 use Rattle.rules.specs.Marks.{places, dayOf, groupOf, Judged, isBilled, mark, violations, marked, billed, amount}
 use Rattle.rules.specs.Laws.{Laws}
 use Rattle.rules.proofs.Laws.{falling96, laws as rulesLaws}
-use Rattle.schedule.specs.Calendar.{daysIn}
+use Rattle.calendar.specs.Calendar.{daysIn}
 use Rattle.schedule.specs.Lookup.{firmPlace, firmListed, found, firmFound}
-use Rattle.schedule.specs.Check.{Outcome, refused, good, follow, checkOf}
-use Rattle.schedule.specs.declared.scan.Layout.{Layout}
+use Rattle.schedule.specs.Outcome.{Outcome, refused, good, follow}
+use Rattle.schedule.specs.Check.{checkOf}
+use Rattle.schedule.specs.declared.lookup.Layout.{Layout}
 use Rattle.schedule.proofs.Good.{refused-good}
 use Rattle.book.specs.Book.{size, checkBook, openAnswer, openBook}
 use Rattle.book.specs.Accepted.{accepted, own, posted}
 use Rattle.book.proofs.Checked.{Sized, sized, book-good}
 use Rattle.book.proofs.Laws.{laws as bookLaws}
 use Rattle.statement.specs.Lines.{totalsBytes, lines, having, tally, shown}
-use Rattle.statement.specs.Statement.{terms, monthOf, statementBytes, spoilt, need, firmCells, firmMonth, statementAnswer, statementOutput}
-use Rattle.statement.specs.Parts.{Grouped}
+use Rattle.month.specs.Month.{terms, monthOf, anyExcess, firmTotals, firmMonth}
+use Rattle.statement.specs.Statement.{statementBytes, need, statementAnswer, statementOutput}
+use Rattle.month.specs.Parts.{Grouped}
 use Rattle.statement.specs.Demand3.{layout, isListed, totalsAfter, monthAfter, amountAfter, Run, outputOf, Falls, TotalsAt, afterLines, AddsUp, NoDearer, SameBytes, Demand3}
 use Rattle.statement.proofs.Answers.{cause-after}
 use Rattle.statement.proofs.Shown.{lines-length, mark-some, marks-count, bytes-length, month-grouped}
-use Rattle.statement.proofs.Waivers.{one-or-two}
+use Rattle.month.proofs.Waivers.{one-or-two}
 
 laws96 : Laws version96
 laws96 = rulesLaws version96 falling96

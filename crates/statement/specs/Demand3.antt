@@ -12,11 +12,13 @@ use Rattle.rules.specs.Month.{Cells}
 use Rattle.rules.specs.Marks.{Judged, violations, marked, billed, amount}
 use Rattle.rules.specs.Lighter.{LighterMonth}
 use Rattle.schedule.specs.Lookup.{firmPlace, firmListed}
-use Rattle.schedule.specs.Check.{Outcome, refused, good, given, checkOf}
-use Rattle.schedule.specs.declared.scan.Layout.{Layout}
+use Rattle.schedule.specs.Outcome.{Outcome, refused, good, given}
+use Rattle.schedule.specs.Check.{checkOf}
+use Rattle.schedule.specs.declared.lookup.Layout.{Layout}
 use Rattle.book.specs.Book.{openAnswer, openBook}
 use Rattle.book.specs.Accepted.{accepted, own, posted}
-use Rattle.statement.specs.Statement.{terms, monthOf, statementAnswer, statementOutput}
+use Rattle.month.specs.Month.{terms, monthOf}
+use Rattle.statement.specs.Statement.{statementAnswer, statementOutput}
 
 -- what the schedule holds; nothing, where it is refused, and then open refuses every book
 abbrev pub layout : (S : List ℕ) → Layout

@@ -12,18 +12,20 @@ use Rattle.wire.specs.Lists.{joined, table}
 use Rattle.wire.specs.Sums.{sum, count}
 use Rattle.rules.specs.Verdict.{code}
 use Rattle.rules.specs.declared.Totals.{Totals}
-use Rattle.schedule.specs.Calendar.{daysIn}
-use Rattle.schedule.specs.Counted.{contractListed, contractCounted, inFront, isAfter, isCounted, contractIs}
-use Rattle.schedule.specs.Fields.{isCode, headOk, listed, contract, before, contractBad, contractsOk, groupOk, groupFields, firmOk}
+use Rattle.calendar.specs.Calendar.{daysIn}
+use Rattle.records.specs.Counted.{contractListed, contractCounted, inFront, isAfter, isCounted, contractIs}
+use Rattle.records.specs.Fields.{isLetter, headOk, listed, contract, before, contractBad, contractsOk, groupOk, groupFields, firmOk}
 use Rattle.schedule.specs.Lookup.{groupStart, groupIs, firmIs, groupListed, firmListed}
-use Rattle.schedule.specs.Check.{Outcome, good, byKind, isDue, lengthOk, isFull, fieldsOk, isRepeated, cause as recordCause, after, ending, scan, checkOf}
+use Rattle.schedule.specs.Outcome.{Outcome, good}
+use Rattle.schedule.specs.Check.{kindOf, isDue, lengthOk, isFull, fieldsOk, isRepeated, cause as recordCause, after, ending, scan, checkOf}
 use Rattle.book.specs.Activity.{totalsOf}
 use Rattle.book.specs.Book.{checkBook, openBook}
 use Rattle.book.specs.Post.{cause as postCause}
 use Rattle.book.specs.Accepted.{accepted, posted}
 use Rattle.book.specs.Samples.{head, group, ABC, firm, activity}
 use Rattle.statement.specs.Lines.{lineAt, tally, shown}
-use Rattle.statement.specs.Statement.{spoilt, cause, statementAnswer, statementOutput}
+use Rattle.month.specs.Month.{anyExcess}
+use Rattle.statement.specs.Statement.{cause, statementAnswer, statementOutput}
 use Rattle.statement.specs.Demand3.{layout, totalsAfter, amountAfter, Falls}
 
 -- document 01's schedule: October 2019, every day in effect, ES of grouping 1, ABC

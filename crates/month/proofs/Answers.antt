@@ -1,0 +1,42 @@
+-- What a month's call comes to: the first of 1 to 8, 21 and 22, or what the schedule holds.
+-- Assumes nothing.
+use Prim.Native.Nat.{ℕ}
+use mathlib.Core.Bool.{true, false, not}
+use mathlib.Core.List.{List}
+use mathlib.Core.Path.{_≡_, ap}
+use lib.ListN.{length}
+use Rattle.wire.specs.Choose.{choose}
+use Rattle.wire.proofs.Choose.{here, next, done, chosen}
+use Rattle.schedule.specs.Outcome.{refused, good}
+use Rattle.schedule.specs.Lookup.{firmListed}
+use Rattle.schedule.specs.declared.lookup.Layout.{Layout}
+use Rattle.book.specs.Book.{totalsIn, checkBook}
+use Rattle.month.specs.Month.{anyExcess, monthCauses, monthAnswer}
+use Rattle.month.specs.Parts.{ListedAt}
+
+module _ (S B C : List ℕ) where
+  -- 1 to 8
+  pub is-refused : {n o : ℕ} → checkBook S (length B) ≡ refused n o → monthAnswer S B C ≡ refused n o
+  unfolding monthAnswer
+  is-refused e = rw e
+
+  module _ {l : Layout} (e : checkBook S (length B) ≡ good l) where
+    -- an unlisted firm
+    pub is-21 : firmListed S l C ≡ false → monthAnswer S B C ≡ refused 21 0
+    unfolding monthAnswer
+    is-21 h =
+        let n : choose (monthCauses S B C l) 0 ≡ 21 = chosen (here (ap not h)) in
+        rw (e, n)
+
+  module _ (l : Layout) (f : ℕ) (at : ListedAt S l B C f) where
+    pub is-22 : anyExcess l (totalsIn (l .groups) B f) ≡ true → monthAnswer S B C ≡ refused 22 0
+    unfolding monthAnswer
+    is-22 h =
+        let n : choose (monthCauses S B C l) 0 ≡ 22 = chosen (next (ap not (at .listed)) (here (rw (at .place) at h))) in
+        rw (at .checked, n)
+
+    pub is-judged : anyExcess l (totalsIn (l .groups) B f) ≡ false → monthAnswer S B C ≡ good l
+    unfolding monthAnswer
+    is-judged h =
+        let n : choose (monthCauses S B C l) 0 ≡ 0 = chosen (next (ap not (at .listed)) (next (rw (at .place) at h) done)) in
+        rw (at .checked, n)

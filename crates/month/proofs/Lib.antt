@@ -1,0 +1,3 @@
+pub mod Exempt
+pub mod Waivers
+pub mod Answers

@@ -1,0 +1,68 @@
+-- Past the last group and on a day that is not in effect the code is 0; elsewhere the verdict on the cell has the place's code.
+-- Assumes nothing.
+use Prim.Native.Nat.{ℕ, _%_}
+use mathlib.Core.Bool.{_&&_}
+use mathlib.Core.Path.{_≡_, ap, ap₂, _∙_}
+use lib.Dec.{ltb}
+use denote.Ref.{now}
+use borrow.Author.Needs.{needs}
+use Rattle.wire.proofs.Bools.{yes, no}
+use Rattle.rules.specs.Verdict.{verdict, verdictMeaning}
+use Rattle.rules.specs.Marks.{codeAt}
+use Rattle.schedule.specs.InForce.{rulesOf}
+use Rattle.book.specs.Book.{totalsIn}
+use Rattle.month.specs.Month.{terms}
+use Rattle.month.specs.Parts.{codeIn}
+use Rattle.month.proofs.Exempt.{verdict-place, place-most}
+use Rattle.month.proofs.days.place_code.Statement.{statement}
+use Rattle.month.proofs.days.place_code.Tie as tie
+
+-- where the test of group and day stands, and the start
+abbrev test : tie.After-days-verdict → tie.Else1
+test c = c .before .before .before .before
+
+abbrev start : tie.Else1 → tie.Start
+start c = c .before .before .before .before .before
+
+-- past the test the verdict has the place's code
+is-code : (c : tie.After-days-verdict) → let a = start (test c) .args in
+    codeIn (verdictMeaning (c .days-verdict .result)) ≡ codeAt (rulesOf (now (a .schedule))) (terms (now (a .schedule)) (a .l)) (totalsIn (a .l .groups) (now (a .book)) (a .firm)) (a .i)
+is-code c =
+    let t = test c in
+    let s = start t in
+    let a = s .args in
+    let listed = yes (ap (λ b. ltb (a .i % 32) (a .l .groups) && b) (t .before .in-effect .ensures)) (t .if1 .left) in
+    ap codeIn (c .days-verdict .ensures)
+    ∙ ap₂ (λ t B. codeIn (verdict 1 t B)) (c .before .totals-in .ensures) (ap (λ g. g .benchmark) (c .before .before .before .group-of .ensures))
+    ∙ verdict-place (now (a .schedule)) (totalsIn (a .l .groups) (now (a .book)) (a .firm)) (s .pre .1 .1) (a .i) listed
+
+returns : tie.Need-returns
+returns c =
+    let a = c .before .before .before .before .before .args in
+    let e = no (ap (λ b. ltb (a .i % 32) (a .l .groups) && b) (c .before .in-effect .ensures)) (c .if1 .taken) in
+    rw e
+
+code-of-requires : tie.Need-code-of-requires
+code-of-requires c κs =
+    let a = start (test c) .args in
+    rw (is-code c) (place-most (now (a .schedule)) (a .l) (totalsIn (a .l .groups) (now (a .book)) (a .firm)) (a .i))
+
+returns-2 : tie.Need-returns-2
+returns-2 c = c .code-of .ensures ∙ is-code (c .before)
+
+pub place-code-spec : {M : Type 1} → statement M
+place-code-spec =
+    tie.close
+    (tie.spec
+    (λ c. search needs)
+    (λ c. search needs)
+    (λ c. search needs)
+    (λ c κs. search needs)
+    returns
+    (λ c κs. search needs)
+    (λ c. search needs)
+    (λ c. search needs)
+    (λ c κs. search needs)
+    (λ c κs. search needs)
+    code-of-requires
+    returns-2)

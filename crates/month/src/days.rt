@@ -1,0 +1,209 @@
+// A firm's days in the book: refusal 22, the codes of its places, the month's sums and exemptions.
+use book::totals_in;
+use calendar::days_in;
+use calendar::in_effect;
+use crate::groups::group_of;
+use rules::Totals;
+use rules::Verdict;
+use rules::days_verdict;
+use rules::fits;
+use rules::is_violation;
+use schedule::Layout;
+ghost use mathlib.Core.Bool.{true, false, cond};
+ghost use mathlib.Core.Path.{_≡_};
+ghost use Prim.Native.Nat.{_≤_, _<_};
+ghost use Rattle.wire.specs.Lists.{table};
+ghost use Rattle.rules.specs.Verdict.{fits, verdictMeaning};
+ghost use Rattle.rules.specs.Month.{exempt};
+ghost use Rattle.rules.specs.Marks.{codeAt};
+ghost use Rattle.schedule.specs.InForce.{rulesOf};
+ghost use Rattle.book.specs.Book.{totalsIn};
+ghost use Rattle.month.specs.Month.{terms, isExcess, anyExcess, startsOf, exemptsOf};
+ghost use Rattle.month.specs.Parts.{Sound, Within, withDay, sumsTo, codeIn};
+
+// Whether place i is of a day of the month, and has a number above the limit.
+fn excess_at(l: Layout, book: &[u64], firm: u8, i: usize) -> bool
+    requires { ⌜ i < 992 ⌝ }
+    ensures { λ r. ⌜ r ≡ isExcess l (totalsIn (l .groups) (now (book .entry)) firm) i ⌝ }
+{
+    let day = (i / 32 + 1) as u8;
+    let t = totals_in(book, l.groups, firm, (i % 32) as u8, day);
+    (day <= days_in(l.month)) & !fits(1, t)
+}
+
+// Refusal 22: whether a number of the firm, days of the month, is above the limit.
+pub(crate) fn has_excess(l: Layout, book: &[u64], firm: u8) -> bool
+    ensures { λ r. ⌜ r ≡ anyExcess l (totalsIn (l .groups) (now (book .entry)) firm) ⌝ }
+{
+    let mut i: usize = 0;
+    while i < 992 {
+        if excess_at(l, book, firm, i) {
+            return true;
+        }
+        i += 1;
+    }
+    false
+}
+
+// The sums of raw, score and lots over the counted days, and how many these are.
+struct MonthSums {
+    raw: u64,
+    score: u64,
+    lots: u64,
+    days: u64,
+}
+
+impl MonthSums {
+    // The sums with a counted day more.
+    fn with_day(self, t: Totals) -> MonthSums
+        requires { ⌜ Within 30 self ⌝ }
+        requires { ⌜ fits 1 t ≡ true ⌝ }
+        ensures { λ r. ⌜ r ≡ withDay self t ⌝ }
+    {
+        MonthSums {
+            raw: self.raw + t.raw,
+            score: self.score + t.score,
+            lots: self.lots + t.lots,
+            days: self.days + 1,
+        }
+    }
+}
+
+// The sums with a day, which is counted or not.
+fn with_cell(sums: MonthSums, counted: bool, t: Totals) -> MonthSums
+    requires { ⌜ Within 30 sums ⌝ }
+    requires { ⌜ (counted ≡ true → fits 1 t ≡ true) ⌝ }
+    ensures { λ r. ⌜ r ≡ cond counted (withDay sums t) sums ⌝ }
+{
+    if counted {
+        return sums.with_day(t);
+    }
+    sums
+}
+
+// The sums of a group of the firm over the month.
+fn month_sums(schedule: &[u8], l: Layout, book: &[u64], firm: u8, group: u8) -> MonthSums
+    requires { ⌜ group < 32 ⌝ }
+    requires { ⌜ Sound (now schedule) l (totalsIn (l .groups) (now book) firm) ⌝ }
+    ensures { λ r. ⌜ r ≡ sumsTo (terms (now (schedule .entry)) l) (totalsIn (l .groups) (now (book .entry)) firm) group 31 ⌝ }
+{
+    let mut sums = MonthSums {
+        raw: 0,
+        score: 0,
+        lots: 0,
+        days: 0,
+    };
+    let mut d: u8 = 0;
+    while d < 31 {
+        let t = totals_in(book, l.groups, firm, group, d + 1);
+        let counted = in_effect(l.month, l.closed, d + 1) & (0 < t.raw);
+        sums = with_cell(sums, counted, t);
+        d += 1;
+    }
+    sums
+}
+
+// The code of a verdict. Where 22 does not refuse, each verdict has one.
+fn code_of(v: Verdict) -> u8
+    requires { ⌜ codeIn (verdictMeaning v) ≤ 5 ⌝ }
+    ensures { λ r. ⌜ r ≡ codeIn (verdictMeaning v) ⌝ }
+{
+    match v {
+        Verdict::Code(n) => n as u8,
+        Verdict::Refused => 0,
+        Verdict::TooManyDays => 0,
+    }
+}
+
+// Whether a group of the firm is exempt this month.
+fn is_exempt(
+    schedule: &[u8],
+    l: Layout,
+    book: &[u64],
+    firm: u8,
+    starts: &[usize; 32],
+    g: usize,
+) -> bool
+    requires { ⌜ g < 32 ⌝ }
+    requires { ⌜ now starts ≡ startsOf (now schedule) l ⌝ }
+    requires { ⌜ Sound (now schedule) l (totalsIn (l .groups) (now book) firm) ⌝ }
+    ensures { λ r. ⌜ r ≡ exempt (rulesOf (now (schedule .entry))) (terms (now (schedule .entry)) l) (totalsIn (l .groups) (now (book .entry)) firm) g ⌝ }
+{
+    if (l.groups as usize) <= g {
+        return true;
+    }
+    let benchmark = group_of(schedule, l, starts, g).benchmark as u64;
+    let s = month_sums(schedule, l, book, firm, g as u8);
+    let t = Totals {
+        raw: s.raw,
+        score: s.score,
+        lots: s.lots,
+    };
+    !is_violation(code_of(days_verdict(s.days, t, benchmark)))
+}
+
+// Which groups of the firm are exempt.
+pub(crate) fn fill_exempts(
+    schedule: &[u8],
+    l: Layout,
+    book: &[u64],
+    firm: u8,
+    starts: &[usize; 32],
+) -> [bool; 32]
+    requires { ⌜ now starts ≡ startsOf (now schedule) l ⌝ }
+    requires { ⌜ Sound (now schedule) l (totalsIn (l .groups) (now book) firm) ⌝ }
+    ensures { λ r. ⌜ r ≡ exemptsOf (now (schedule .entry)) l (totalsIn (l .groups) (now (book .entry)) firm) ⌝ }
+{
+    let mut exempts = [false; 32];
+    let mut g: usize = 0;
+    while g < 32 {
+        exempts[g] = is_exempt(schedule, l, book, firm, starts, g);
+        g += 1;
+    }
+    exempts
+}
+
+// The code of place i: 0 past the last group and on a day that is not in effect.
+fn place_code(
+    schedule: &[u8],
+    l: Layout,
+    book: &[u64],
+    firm: u8,
+    starts: &[usize; 32],
+    i: usize,
+) -> u8
+    requires { ⌜ i < 992 ⌝ }
+    requires { ⌜ now starts ≡ startsOf (now schedule) l ⌝ }
+    requires { ⌜ Sound (now schedule) l (totalsIn (l .groups) (now book) firm) ⌝ }
+    ensures { λ r. ⌜ r ≡ codeAt (rulesOf (now (schedule .entry))) (terms (now (schedule .entry)) l) (totalsIn (l .groups) (now (book .entry)) firm) i ⌝ }
+{
+    let g = i % 32;
+    let day = (i / 32 + 1) as u8;
+    if !((g < (l.groups as usize)) & in_effect(l.month, l.closed, day)) {
+        return 0;
+    }
+    let benchmark = group_of(schedule, l, starts, g).benchmark as u64;
+    let t = totals_in(book, l.groups, firm, g as u8, day);
+    code_of(days_verdict(1, t, benchmark))
+}
+
+// The codes of the firm's places, day by day.
+pub(crate) fn fill_codes(
+    schedule: &[u8],
+    l: Layout,
+    book: &[u64],
+    firm: u8,
+    starts: &[usize; 32],
+) -> [u8; 992]
+    requires { ⌜ now starts ≡ startsOf (now schedule) l ⌝ }
+    requires { ⌜ Sound (now schedule) l (totalsIn (l .groups) (now book) firm) ⌝ }
+    ensures { λ r. ⌜ r ≡ table 992 (codeAt (rulesOf (now (schedule .entry))) (terms (now (schedule .entry)) l) (totalsIn (l .groups) (now (book .entry)) firm)) ⌝ }
+{
+    let mut codes = [0u8; 992];
+    let mut i: usize = 0;
+    while i < 992 {
+        codes[i] = place_code(schedule, l, book, firm, starts, i);
+        i += 1;
+    }
+    codes
+}

@@ -1,0 +1,47 @@
+// The groups of the schedule by their places.
+use records::Group;
+use schedule::Layout;
+use schedule::group_at;
+use wire::u16_at;
+ghost use mathlib.Core.Path.{_≡_};
+ghost use Prim.Native.Nat.{_<_};
+ghost use Rattle.schedule.specs.Lookup.{groupAt};
+ghost use Rattle.month.specs.Month.{startsOf, groupingsOf};
+
+// Where the groups stand in the schedule. Past the last group the places mean nothing, and no code goes by them.
+pub(crate) fn group_starts(schedule: &[u8], l: Layout) -> [usize; 32]
+    ensures { λ r. ⌜ r ≡ startsOf (now (schedule .entry)) l ⌝ }
+{
+    let mut starts = [0usize; 32];
+    let mut at = l.first as usize;
+    let mut g: usize = 0;
+    while g < 32 {
+        starts[g] = at;
+        at += u16_at(schedule, at) as usize;
+        g += 1;
+    }
+    starts
+}
+
+// The fields of group g. The layout is an argument since the contract names the groups by it.
+pub(crate) fn group_of(schedule: &[u8], l: Layout, starts: &[usize; 32], g: usize) -> Group
+    requires { ⌜ g < 32 ⌝ }
+    requires { ⌜ now starts ≡ startsOf (now schedule) l ⌝ }
+    ensures { λ r. ⌜ r ≡ groupAt (now (schedule .entry)) l g ⌝ }
+{
+    group_at(schedule, starts[g])
+}
+
+// The groups' exchange groupings.
+pub(crate) fn exchange_groupings(schedule: &[u8], l: Layout, starts: &[usize; 32]) -> [u8; 32]
+    requires { ⌜ now starts ≡ startsOf (now schedule) l ⌝ }
+    ensures { λ r. ⌜ r ≡ groupingsOf (now (schedule .entry)) l ⌝ }
+{
+    let mut groupings = [0u8; 32];
+    let mut g: usize = 0;
+    while g < 32 {
+        groupings[g] = group_of(schedule, l, starts, g).grouping;
+        g += 1;
+    }
+    groupings
+}
