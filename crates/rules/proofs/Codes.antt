@@ -13,7 +13,7 @@ use Rattle.wire.specs.Choose.{choose}
 use Rattle.wire.proofs.Bools.{and-left, and-right, cond-le, ltb-leb, range}
 use Rattle.wire.proofs.Choose.{chosen, next, done, each}
 use Rattle.wire.proofs.Implies.{_⇒_, not-⇒, and-⇒, leb-⇒, cond-rises}
-use Rattle.rules.specs.Verdict.{version96, Falling, factor, exceeds, code, isViolation, isSevere, limit, fits, isBenchmark, isRefused, coded, verdict}
+use Rattle.rules.specs.Verdict.{version96, Falling, factor, exceeds, code, isViolation, isSevere, limit, fits, isBenchmark, isRefused, coded, refusal, tooManyDays, verdict}
 use Rattle.rules.specs.Bounds.{Lawful, Bounded}
 use Rattle.rules.specs.Month.{isExempt}
 use Rattle.rules.specs.declared.Rules.{Rules}
@@ -72,6 +72,16 @@ fitting d t e =
 pub verdict-code : (d : ℕ) (t : Totals) (B : ℕ) → d ≤ 31 → fits d t ≡ true → isBenchmark B ≡ true → verdict d t B ≡ coded (code version96 B d t)
 unfolding verdict
 verdict-code d t B h f w = chosen (next (le-ltb 31 d h) (next (rw (f, w)) done))
+
+-- a judgement is one of its three cases
+pub coded-same : {m n : ℕ} → coded m ≡ coded n → m ≡ n
+coded-same e = cc
+
+pub refusal-coded : {k n : ℕ} → refusal k ≡ coded n → ⊥
+refusal-coded e = let z : _≡_ {A = ℕ} 0 1 = cc in omega arith
+
+pub many-coded : {n : ℕ} → tooManyDays ≡ coded n → ⊥
+many-coded e = let z : _≡_ {A = ℕ} 0 1 = cc in omega arith
 
 -- version 9.6's numbers are small
 pub lawful96 : Lawful version96

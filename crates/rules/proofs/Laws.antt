@@ -1,9 +1,12 @@
 -- The laws of the rules, each from the file that proves it, and version 9.6's factors, which fall.
 -- Assumes nothing.
+use mathlib.Core.Bool.{Bool, true, false, cond}
+use mathlib.Core.Path.{_≡_, refl}
 use native.Mathlib.Omega.{arith}
+use Rattle.wire.specs.Choose.{choose}
 use Rattle.wire.proofs.Implies.{follows}
-use Rattle.rules.specs.Verdict.{Falling, version96}
-use Rattle.rules.specs.Laws.{Laws}
+use Rattle.rules.specs.Verdict.{Falling, version96, code, isRefused, coded, refusal, verdict, dayVerdict}
+use Rattle.rules.specs.Laws.{Laws, OneDay}
 use Rattle.rules.specs.declared.Rules.{Rules}
 use Rattle.rules.proofs.Codes.{fails, severe, violation-falls, severe-falls}
 use Rattle.rules.proofs.Bills.{adds-up, dollars}
@@ -24,3 +27,11 @@ laws P F =
 
 pub falling96 : Falling version96
 falling96 = omega arith
+
+pub one-day : OneDay
+unfolding verdict dayVerdict choose
+one-day t B = go (isRefused 1 t B)
+  where
+    go : (b : Bool) → cond b (refusal 24) (coded (code version96 B 1 t)) ≡ cond b (refusal (cond b 24 (code version96 B 1 t))) (coded (cond b 24 (code version96 B 1 t)))
+    go true = refl
+    go false = refl

@@ -1,10 +1,10 @@
 -- What follows from the rules, whatever the constants, if their factors do not grow with the tier. Proved in proofs/Laws.antt.
 -- Assumes nothing.
 use Prim.Native.Nat.{ℕ, _+_, _*_, _≤_, _<_}
-use mathlib.Core.Bool.{true, _&&_}
+use mathlib.Core.Bool.{true, cond, _&&_}
 use mathlib.Core.Path.{_≡_}
 use lib.Dec.{ltb}
-use Rattle.rules.specs.Verdict.{exceeds, code, isViolation, isSevere}
+use Rattle.rules.specs.Verdict.{exceeds, code, isViolation, isSevere, isRefused, coded, refusal, verdict, dayVerdict}
 use Rattle.rules.specs.Month.{Terms, Cells, exempt}
 use Rattle.rules.specs.Marks.{Judged, judged, violations, marked, billed, amount}
 use Rattle.rules.specs.Lighter.{Lighter, LighterMonth}
@@ -31,3 +31,7 @@ pub record Laws (P : Rules) : Type 0 where
   pub adds-up : (j : Judged) (e : ℕ) → violations j e ≡ marked P j e 3 + marked P j e 4 + billed P j e
   -- and the amount is that of the billed
   pub dollars : (j : Judged) (e : ℕ) → amount P j e ≡ P .dollars * billed P j e
+
+-- one day is never too many: the panel's number is that of the verdict on one day
+abbrev pub OneDay : Type 0
+OneDay = (t : Totals) (B : ℕ) → verdict 1 t B ≡ cond (isRefused 1 t B) (refusal (dayVerdict t B)) (coded (dayVerdict t B))

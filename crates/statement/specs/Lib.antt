@@ -1,5 +1,4 @@
+pub mod Layout
 pub mod Lines
 pub mod Statement
 pub mod Parts
-pub mod Demand3
-pub mod Example

@@ -1,6 +1,6 @@
 -- The test is that of the definition: where it fails there are no totals, and else the cell is read at its index, which is small.
 -- Assumes nothing.
-use Prim.Native.Nat.{_≤_, _<_}
+use Prim.Native.Nat.{_≤_}
 use mathlib.Core.Bool.{true, false, _&&_}
 use mathlib.Core.Path.{_≡_, ap}
 use native.Mathlib.Nat.{mul-le-mul}
@@ -29,9 +29,7 @@ cell-index-requires : tie.Need-cell-index-requires
 cell-index-requires c κs =
     let a = c .before .before .args in
     let d = range 1 31 (a .day) (and-right (ltb (a .group) (a .groups)) (within 1 31 (a .day)) (there c)) in
-    let f : a .firm < 256 = search needs in
-    let g : a .group < 256 = search needs in
-    (f, g, d .least)
+    search needs
 
 cell-at-requires : tie.Need-cell-at-requires
 cell-at-requires c κs =
