@@ -14,8 +14,8 @@ use Rattle.rules.specs.Lighter.{Lighter}
 use Rattle.rules.specs.declared.Totals.{Totals}
 use Rattle.calendar.specs.Calendar.{daysIn, inEffect}
 use Rattle.calendar.proofs.Laws.{days-most}
-use Rattle.statement.specs.Demand3.{layout, totalsAfter, Falls}
-use Rattle.statement.specs.Example.{isLighter, isKept, daysWhere, Applies, example}
+use Rattle.guarantee.specs.Demand3.{layout, totalsAfter, Falls}
+use Rattle.guarantee.specs.Example.{isLighter, isKept, daysWhere, Applies, example}
 
 lighter-by : (t′ t : Totals) → isLighter t′ t ≡ true → Lighter t′ t
 lighter-by t′ t e =

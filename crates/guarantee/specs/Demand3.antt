@@ -5,41 +5,43 @@ use Prim.Native.Nat.{ℕ, _+_, _*_, _≤_}
 use mathlib.Core.Bool.{Bool}
 use mathlib.Core.List.{List}
 use mathlib.Core.Path.{_≡_}
-use lib.ListN.{getD, take}
-use Rattle.wire.specs.Bytes.{u16At, u32At}
-use Rattle.rules.specs.Verdict.{version96}
+use lib.ListN.{take, drop}
 use Rattle.rules.specs.Month.{Cells}
 use Rattle.rules.specs.Marks.{Judged, violations, marked, billed, amount}
 use Rattle.rules.specs.Lighter.{LighterMonth}
-use Rattle.schedule.specs.Lookup.{firmPlace, firmListed}
+use Rattle.rules.specs.declared.Rules.{Rules}
+use Rattle.records.specs.Bodies.{lengthAt, kindAt}
 use Rattle.schedule.specs.Outcome.{Outcome, refused, good, given}
-use Rattle.schedule.specs.Check.{checkOf}
+use Rattle.schedule.specs.Lookup.{firmListed, firmPlace}
+use Rattle.schedule.specs.Check.{nothing, checkOf}
+use Rattle.schedule.specs.InForce.{rulesOf}
 use Rattle.schedule.specs.declared.lookup.Layout.{Layout}
 use Rattle.book.specs.Book.{openAnswer, openBook}
 use Rattle.book.specs.Accepted.{accepted, own, posted}
 use Rattle.month.specs.Month.{terms, monthOf}
+use Rattle.statement.specs.Layout.{lineSize, totalsSize, bothTotals, totalsKind, totalsGrouping, totalsZero, totalsViolations, totalsMonthly, totalsAutomatic, totalsBilled, totalsDollars}
 use Rattle.statement.specs.Statement.{statementAnswer, statementOutput}
 
 -- what the schedule holds; nothing, where it is refused, and then open refuses every book
 abbrev pub layout : (S : List ℕ) → Layout
-layout S = given (checkOf S) (record { month = 0; closed = 0; groups = 0; firms = 0; start = 0 }) (λ l. l)
+layout S = given (checkOf S) nothing (λ l. l)
 
 module _ (S C : List ℕ) where
   -- a firm that the schedule lists
   abbrev pub isListed : Bool
-  isListed = firmListed S (layout S .start) (layout S .firms) C
+  isListed = firmListed S (layout S) C
 
   -- Accepted totals of its cells come from the schedule and the list alone
   abbrev pub totalsAfter : (rs : List (List ℕ)) → Cells
-  totalsAfter rs = accepted S rs (firmPlace S (layout S .start) (layout S .firms) C)
+  totalsAfter rs = accepted S rs (firmPlace S (layout S) C)
 
-  -- Codes, exemptions and marks are worked out from its accepted totals by the rules
+  -- Codes, exemptions and marks are worked out from its accepted totals by the rules in force
   abbrev pub monthAfter : (rs : List (List ℕ)) → Judged
   monthAfter rs = monthOf S (layout S) (totalsAfter rs)
 
   -- A firm's amount in a grouping is the sum of what the marks of its violations there cost
   abbrev pub amountAfter : (rs : List (List ℕ)) → (e : ℕ) → ℕ
-  amountAfter rs e = amount version96 (monthAfter rs) e
+  amountAfter rs e = amount (rulesOf S) (monthAfter rs) e
 
   -- A list starts from a book that open has just set to zero without a refusal; after it the statement takes the same schedule, the book as
   -- it then stands, and an output that 23 doesn't refuse
@@ -48,7 +50,7 @@ module _ (S C : List ℕ) where
     pub posts : List (List ℕ)
     pub output : List ℕ
     pub opened : openAnswer S book ≡ good tt
-    pub roomy : statementAnswer S (posted S (openBook S book) posts) C output ≡ refused 23 0 → ⊥
+    pub enough : statementAnswer S (posted S (openBook S book) posts) C output ≡ refused 23 0 → ⊥
 
   -- what the statement answers
   abbrev pub answerOf : Run → Outcome ℕ
@@ -63,41 +65,46 @@ module _ (S C : List ℕ) where
   abbrev pub Falls : (first second : List (List ℕ)) → Type 0
   Falls first second = LighterMonth (terms S (layout S)) (totalsAfter second) (totalsAfter first)
 
--- the totals record of the grouping e that stands at a place of the bytes bs: each number is the one that document 01 says it is, of the
--- month j
-pub record TotalsAt (bs : List ℕ) (at e : ℕ) (j : Judged) : Type 0 where
-  pub length : u16At bs at ≡ 18
-  pub kind : u16At bs (at + 2) ≡ 17
-  pub grouping : getD bs (at + 4) 0 ≡ e
-  pub zero : getD bs (at + 5) 0 ≡ 0
+-- a totals record T of the grouping e: each number is the one that document 01 says it is, of the month j under the rules P
+pub record TotalsAre (P : Rules) (T : List ℕ) (e : ℕ) (j : Judged) : Type 0 where
+  pub length : lengthAt T 0 ≡ totalsSize
+  pub kind : kindAt T 0 ≡ totalsKind
+  pub grouping : totalsGrouping T ≡ e
+  pub zero : totalsZero T ≡ 0
   -- violations = monthly + automatic + billed
-  pub adds : u16At bs (at + 6) ≡ u16At bs (at + 8) + u16At bs (at + 10) + u16At bs (at + 12)
+  pub adds : totalsViolations T ≡ totalsMonthly T + totalsAutomatic T + totalsBilled T
   -- violations is the number of the firm's violations in that grouping
-  pub violationsAre : u16At bs (at + 6) ≡ violations j e
+  pub violationsAre : totalsViolations T ≡ violations j e
   -- monthly, automatic and billed are the numbers of those with mark 3, with mark 4, and with mark 1 or 2
-  pub monthlyAre : u16At bs (at + 8) ≡ marked version96 j e 3
-  pub automaticAre : u16At bs (at + 10) ≡ marked version96 j e 4
-  pub billedAre : u16At bs (at + 12) ≡ billed version96 j e
+  pub monthlyAre : totalsMonthly T ≡ marked P j e 3
+  pub automaticAre : totalsAutomatic T ≡ marked P j e 4
+  pub billedAre : totalsBilled T ≡ billed P j e
   -- the dollars are the firm's amount there
-  pub dollarsAre : u32At bs (at + 14) ≡ amount version96 j e
+  pub dollarsAre : totalsDollars T ≡ amount P j e
 
--- where the totals stand, after the lines of a month: twelve bytes for each violation
+-- the bytes of a month's lines, one for each violation
 abbrev pub afterLines : Judged → ℕ
-afterLines j = 12 * (violations j 1 + violations j 2)
+afterLines j = lineSize * (violations j 1 + violations j 2)
 
--- the statement is not refused, and in each grouping its totals add up, from the firm's accepted totals
-pub record AddsUp (S C : List ℕ) (p : Run S C) : Type 0 where
-  pub answered : answerOf S C p ≡ good (afterLines (monthAfter S C (p .posts)) + 36)
-  pub first : TotalsAt (outputOf S C p) (afterLines (monthAfter S C (p .posts))) 1 (monthAfter S C (p .posts))
-  pub second : TotalsAt (outputOf S C p) (afterLines (monthAfter S C (p .posts)) + 18) 2 (monthAfter S C (p .posts))
+module _ (S C : List ℕ) (p : Run S C) where
+  -- the totals of the first grouping stand in the output after the lines
+  abbrev pub firstTotals : List ℕ
+  firstTotals = drop (afterLines (monthAfter S C (p .posts))) (outputOf S C p)
+
+  -- and those of the second after them
+  abbrev pub secondTotals : List ℕ
+  secondTotals = drop (afterLines (monthAfter S C (p .posts)) + totalsSize) (outputOf S C p)
+
+  -- the statement is not refused, and in each grouping its totals add up, from the firm's accepted totals
+  pub record AddsUp : Type 0 where
+    pub answered : answerOf S C p ≡ good (afterLines (monthAfter S C (p .posts)) + bothTotals)
+    pub first : TotalsAre (rulesOf S) firstTotals 1 (monthAfter S C (p .posts))
+    pub second : TotalsAre (rulesOf S) secondTotals 2 (monthAfter S C (p .posts))
 
 -- the dollars that stand in the totals of q are no more than those of p
-pub record NoDearer (S C : List ℕ) (p q : Run S C) : Type 0 where
-  pub first :
-      u32At (outputOf S C q) (afterLines (monthAfter S C (q .posts)) + 14) ≤ u32At (outputOf S C p) (afterLines (monthAfter S C (p .posts)) + 14)
-  pub second :
-      u32At (outputOf S C q) (afterLines (monthAfter S C (q .posts)) + 18 + 14)
-      ≤ u32At (outputOf S C p) (afterLines (monthAfter S C (p .posts)) + 18 + 14)
+pub record DollarsFall (S C : List ℕ) (p q : Run S C) : Type 0 where
+  pub first : totalsDollars (firstTotals S C q) ≤ totalsDollars (firstTotals S C p)
+  pub second : totalsDollars (secondTotals S C q) ≤ totalsDollars (secondTotals S C p)
 
 -- Statement bytes are the bytes written, and their number; outputs may differ beyond them
 pub record SameBytes (S C : List ℕ) (p q : Run S C) : Type 0 where
@@ -110,7 +117,7 @@ pub record Demand3 (S C : List ℕ) : Type 0 where
   -- the firm's amount never rises in either exchange grouping as traffic falls, whatever the others sent
   pub falls : (p q : Run S C) → Falls S C (p .posts) (q .posts) → (e : ℕ) → amountAfter S C (q .posts) e ≤ amountAfter S C (p .posts) e
   -- nor do the dollars in its statement
-  pub no-dearer : (p q : Run S C) → Falls S C (p .posts) (q .posts) → NoDearer S C p q
+  pub dollars-fall : (p q : Run S C) → Falls S C (p .posts) (q .posts) → DollarsFall S C p q
   -- after every such list, in each grouping of its statement, violations = monthly + automatic + billed, and the dollars are the firm's amount
   pub adds-up : (p : Run S C) → AddsUp S C p
   -- a firm whose own posts are the same list in both gets the same statement bytes, whatever the others sent

@@ -1,7 +1,7 @@
 -- Computed examples: the statement of document 01's whole run, byte by byte, and one that has all four marks and both exchange groupings; a month in
 -- which traffic falls and the amount with it; and one that shows why demand 3 asks that no raw count above zero becomes zero.
 -- Assumes nothing.
-use Prim.Native.Nat.{ℕ, _+_}
+use Prim.Native.Nat.{ℕ, _+_, _*_}
 use mathlib.Core.Bool.{Bool, _&&_, _||_}
 use mathlib.Core.List.{List, [], _∷_, _++_}
 use mathlib.Core.Path.{_≡_, refl}
@@ -10,23 +10,23 @@ use Rattle.wire.specs.Bytes.{u16At, u32At}
 use Rattle.wire.specs.Choose.{choose, all, seekIn}
 use Rattle.wire.specs.Lists.{joined, table}
 use Rattle.wire.specs.Sums.{sum, count}
+use Rattle.calendar.specs.Calendar.{daysIn}
 use Rattle.rules.specs.Verdict.{code}
 use Rattle.rules.specs.declared.Totals.{Totals}
-use Rattle.calendar.specs.Calendar.{daysIn}
+use Rattle.records.specs.Fields.{headFields, headOk, groupFields, groupInRange, contractsOk, contractBad, before, contract, listed, isLetter, firmFields, firmOk, hasCode}
 use Rattle.records.specs.Counted.{contractListed, contractCounted, inFront, isAfter, isCounted, contractIs}
-use Rattle.records.specs.Fields.{isLetter, headOk, listed, contract, before, contractBad, contractsOk, groupOk, groupFields, firmOk}
-use Rattle.schedule.specs.Lookup.{groupStart, groupIs, firmIs, groupListed, firmListed}
 use Rattle.schedule.specs.Outcome.{Outcome, good}
-use Rattle.schedule.specs.Check.{kindOf, isDue, lengthOk, isFull, fieldsOk, isRepeated, cause as recordCause, after, ending, scan, checkOf}
+use Rattle.schedule.specs.Lookup.{groupStart, groupIs, firmIs, groupListed, firmListed}
+use Rattle.schedule.specs.Check.{checkOf, scan, ending, grown, cause, isRepeated, fieldsOk, isFull, lengthOk, isDue, kindOf}
 use Rattle.book.specs.Activity.{totalsOf}
-use Rattle.book.specs.Book.{checkBook, openBook}
-use Rattle.book.specs.Post.{cause as postCause}
-use Rattle.book.specs.Accepted.{accepted, posted}
+use Rattle.book.specs.Book.{perFirmGroup, checkBook, openBook}
+use Rattle.book.specs.Post.{postCause}
+use Rattle.book.specs.Accepted.{acceptedCells, posted}
 use Rattle.book.specs.Samples.{head, group, ABC, firm, activity}
+use Rattle.month.specs.Month.{anyExcess, monthAnswer}
 use Rattle.statement.specs.Lines.{lineAt, tally, shown}
-use Rattle.month.specs.Month.{anyExcess}
-use Rattle.statement.specs.Statement.{cause, statementAnswer, statementOutput}
-use Rattle.statement.specs.Demand3.{layout, totalsAfter, amountAfter, Falls}
+use Rattle.statement.specs.Statement.{statementAnswer, statementOutput}
+use Rattle.guarantee.specs.Demand3.{layout, totalsAfter, amountAfter, Falls}
 
 -- document 01's schedule: October 2019, every day in effect, ES of grouping 1, ABC
 abbrev pub schedule : List ℕ
@@ -80,13 +80,13 @@ manyBytes =
     ++ (18 ∷ 0 ∷ 17 ∷ 0 ∷ 1 ∷ 0 ∷ 5 ∷ 0 ∷ 1 ∷ 0 ∷ 2 ∷ 0 ∷ 2 ∷ 0 ∷ 208 ∷ 7 ∷ 0 ∷ 0 ∷ [])
     ++ (18 ∷ 0 ∷ 17 ∷ 0 ∷ 2 ∷ 0 ∷ 1 ∷ 0 ∷ 0 ∷ 0 ∷ 1 ∷ 0 ∷ 0 ∷ 0 ∷ 0 ∷ 0 ∷ 0 ∷ 0 ∷ [])
 
--- what the statement answers after a list, to a book of n numbers and an output of 120 sevens
-abbrev answers : (S : List ℕ) → (n : ℕ) → List (List ℕ) → Outcome ℕ
-answers S n rs = statementAnswer S (posted S (openBook S (table n (λ i. 9))) rs) ABC (table 120 (λ i. 7))
+-- what the statement answers after a list, to a book of G groups and an output of 120 sevens
+abbrev answers : (S : List ℕ) → (G : ℕ) → List (List ℕ) → Outcome ℕ
+answers S G rs = statementAnswer S (posted S (openBook S (table (perFirmGroup * G) (λ i. 9))) rs) ABC (table 120 (λ i. 7))
 
 -- and what it leaves in that output
-abbrev leaves : (S : List ℕ) → (n : ℕ) → List (List ℕ) → List ℕ
-leaves S n rs = statementOutput S (posted S (openBook S (table n (λ i. 9))) rs) ABC (table 120 (λ i. 7))
+abbrev leaves : (S : List ℕ) → (G : ℕ) → List (List ℕ) → List ℕ
+leaves S G rs = statementOutput S (posted S (openBook S (table (perFirmGroup * G) (λ i. 9))) rs) ABC (table 120 (λ i. 7))
 
 -- the run with more lots on day 3
 abbrev eased : List (List ℕ)
@@ -113,10 +113,10 @@ abbrev pub daysWhere : ((t′ t : Totals) → Bool) → (S C : List ℕ) → (fi
 daysWhere isSo S C first second = count 31 (λ i. isSo (totalsAfter S C second 0 (i + 1)) (totalsAfter S C first 0 (i + 1)))
 
 pub record Example : Type 0 where
-  pub runAnswer : answers schedule 93 run ≡ good 84
-  pub runOutput : leaves schedule 93 run ≡ runBytes ++ table 36 (λ i. 7)
-  pub manyAnswer : answers threeGroups 279 manyMarks ≡ good 108
-  pub manyOutput : leaves threeGroups 279 manyMarks ≡ manyBytes ++ table 12 (λ i. 7)
+  pub runAnswer : answers schedule 1 run ≡ good 84
+  pub runOutput : leaves schedule 1 run ≡ runBytes ++ table 36 (λ i. 7)
+  pub manyAnswer : answers threeGroups 3 manyMarks ≡ good 108
+  pub manyOutput : leaves threeGroups 3 manyMarks ≡ manyBytes ++ table 12 (λ i. 7)
   -- traffic falls: with more lots on day 3 it passes, and is billed no longer
   pub oneGroup : layout schedule .groups ≡ 1
   pub easedLighter : daysWhere isLighter schedule ABC run eased ≡ 31
@@ -134,7 +134,10 @@ abbrev pub Applies : Type 0
 Applies = Falls schedule ABC run eased
 
 pub example : Example
-unfolding accepted posted checkBook checkOf scan ending after recordCause postCause isRepeated fieldsOk isFull lengthOk isDue byKind firmListed groupListed firmIs groupIs groupStart firmOk groupOk contractsOk contractBad before contract listed headOk isCode contractIs isCounted isAfter inFront contractCounted contractListed groupFields daysIn sum joined seekIn all choose u32At u16At totalsOf code spoilt cause lineAt tally shown
+unfolding acceptedCells posted postCause totalsOf checkBook checkOf scan ending grown cause isRepeated fieldsOk isFull lengthOk isDue kindOf
+    firmListed groupListed firmIs groupIs groupStart firmOk firmFields hasCode groupInRange groupFields contractsOk contractBad before contract
+    listed headOk headFields isLetter contractIs isCounted isAfter inFront contractCounted contractListed daysIn sum joined seekIn all choose u32At
+    u16At code anyExcess monthAnswer lineAt tally shown
 example =
     record {
       runAnswer = refl;
