@@ -176,18 +176,23 @@ module _ (S C : List ℕ) (l : Layout) (e : checkOf S ≡ good l) where
       let fine = bookLaws S e .limited rs f (groupOf i) (dayOf i) in
       rw (fine, and-false (leb (dayOf i) (daysIn (l .month)))))
 
-  -- after any list from an opened book a listed firm's statement is that of its accepted totals
-  stated : (B : List ℕ) (rs : List (List ℕ)) (out : List ℕ) → firmListed S l C ≡ true
-      → openAnswer S B ≡ good tt → size l ≤ length B
-      → (statementAnswer S (posted S (openBook S B) rs) C out ≡ refused 23 0 → ⊥)
-      → Written S (posted S (openBook S B) rs) C out l (monthOf S l (accepted S rs (firmPlace S l C)))
-  stated B rs out listed opened room enough =
-      let B′ : List ℕ = posted S (openBook S B) rs in
-      let held : firmTotals S B′ C l ≡ accepted S rs (firmPlace S l C) = bookLaws S e .held-totals B rs (firmPlace S l C) opened (place-inside S C l listed) in
-      let at : ListedAt S l B′ C (firmPlace S l C)
-      = record { checked = book-good S (length B′) e (rw (bookLaws S e .kept) room); listed = listed; place = refl } in
-      let judged = is-judged S B′ C l (firmPlace S l C) at (ap (anyExcess l) held ∙ no-excess rs (firmPlace S l C)) in
-      subst (λ (c : Cells). Written S B′ C out l (monthOf S l c)) held (written S B′ C out l judged enough)
+  module _ (B : List ℕ) (rs : List (List ℕ)) (listed : firmListed S l C ≡ true) (opened : openAnswer S B ≡ good tt) (room : size l ≤ length B) where
+    abbrev after : List ℕ
+    after = posted S (openBook S B) rs
+
+    held : firmTotals S after C l ≡ accepted S rs (firmPlace S l C)
+    held = bookLaws S e .held-totals B rs (firmPlace S l C) opened (place-inside S C l listed)
+
+    -- after any list from an opened book a listed firm's month is not refused
+    pub judged-after : monthAnswer S after C ≡ good l
+    judged-after =
+        let at : ListedAt S l after C (firmPlace S l C)
+        = record { checked = book-good S (length after) e (rw (bookLaws S e .kept) room); listed = listed; place = refl } in
+        is-judged S after C l (firmPlace S l C) at (ap (anyExcess l) held ∙ no-excess rs (firmPlace S l C))
+
+    -- and its statement is that of its accepted totals
+    stated : (out : List ℕ) → (statementAnswer S after C out ≡ refused 23 0 → ⊥) → Written S after C out l (monthOf S l (accepted S rs (firmPlace S l C)))
+    stated out enough = subst (λ (c : Cells). Written S after C out l (monthOf S l c)) held (written S after C out l judged-after enough)
 
 -- the bytes of a firm's statement after a list
 abbrev bytesAfter : (S C : List ℕ) → (rs : List (List ℕ)) → List ℕ
@@ -197,7 +202,7 @@ module _ (S C : List ℕ) (listed : isListed S C ≡ true) where
   run : (p : Run S C) → Written S (posted S (openBook S (p .book)) (p .posts)) C (p .output) (layout S) (monthAfter S C (p .posts))
   run p =
       let s = opens S (p .book) (p .opened) in
-      stated S C (layout S) (s .schedule) (p .book) (p .posts) (p .output) listed (p .opened) (s .room) (p .enough)
+      stated S C (layout S) (s .schedule) (p .book) (p .posts) listed (p .opened) (s .room) (p .output) (p .enough)
 
   -- what it leaves behind its bytes
   abbrev rest : Run S C → List ℕ

@@ -2,29 +2,41 @@
 // `report` writes; only reading and printing stand here.
 use libc::STDIN_FILENO;
 use libc::STDOUT_FILENO;
+use report::INPUT;
+use report::OUTPUT;
+use report::Reported;
 use report::report;
 ghost use mathlib.Core.Path.{_≡_};
+ghost use Prim.Native.Nat.{_+_};
 ghost use lib.ListN.{length};
-ghost use Rattle.report.specs.Laws.{outputSize};
+ghost use Rattle.report.specs.Input.{inputLimit};
+ghost use Rattle.report.specs.Answer.{outputSize};
 
 // One byte more than the program takes, so that a longer input is seen to be too long.
-fn input_buffer() -> [u8; 65_537]
-    ensures { λ r. ⌜ 65537 ≡ length r ⌝ }
+fn input_buffer() -> [u8; INPUT + 1]
+    ensures { λ r. ⌜ inputLimit + 1 ≡ length r ⌝ }
 {
-    [0; 65_537]
+    [0; INPUT + 1]
 }
 
 // No report is longer.
-fn output_buffer() -> [u8; 524_288]
+fn output_buffer() -> [u8; OUTPUT]
     ensures { λ r. ⌜ outputSize ≡ length r ⌝ }
 {
-    [0; 524_288]
+    [0; OUTPUT]
 }
 
 fn main() {
     let mut input = input_buffer();
     let n = io::read_full(STDIN_FILENO, &mut input);
     let mut out = output_buffer();
-    let k = report(&input[..n], &mut out);
-    io::write_all(STDOUT_FILENO, &out[..k]);
+    match report(&input[..n], &mut out) {
+        Reported::Whole(bytes) => {
+            io::write_all(STDOUT_FILENO, &out[..bytes]);
+        }
+        // Never, for `report`'s output is this large (its specs/Laws.antt).
+        Reported::Cut(bytes) => {
+            io::write_all(STDOUT_FILENO, &out[..bytes]);
+        }
+    }
 }

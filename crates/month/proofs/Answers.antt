@@ -1,15 +1,17 @@
 -- What a month's call comes to: the first of 1 to 8, 21 and 22, or what the schedule holds.
 -- Assumes nothing.
 use Prim.Native.Nat.{ℕ}
-use mathlib.Core.Bool.{true, false, not}
+use mathlib.Core.Bool.{Bool, true, false, cond, not}
+use lib.Dec.{eqb}
 use mathlib.Core.List.{List}
 use mathlib.Core.Path.{_≡_, ap}
 use lib.ListN.{length}
 use Rattle.wire.specs.Choose.{choose}
 use Rattle.wire.proofs.Choose.{here, next, done, chosen}
-use Rattle.schedule.specs.Outcome.{refused, good}
+use Rattle.schedule.specs.Outcome.{Outcome, refused, good, follow}
 use Rattle.schedule.specs.Lookup.{firmListed}
 use Rattle.schedule.specs.declared.lookup.Layout.{Layout}
+use Rattle.schedule.proofs.Good.{refused-good}
 use Rattle.book.specs.Book.{totalsIn, checkBook}
 use Rattle.month.specs.Month.{anyExcess, monthCauses, monthAnswer}
 use Rattle.month.specs.Parts.{ListedAt}
@@ -40,3 +42,16 @@ module _ (S B C : List ℕ) where
     is-judged h =
         let n : choose (monthCauses S B C l) 0 ≡ 0 = chosen (next (ap not (at .listed)) (next (rw (at .place) at h) done)) in
         rw (at .checked, n)
+
+-- a month that is not refused is that of a schedule and a book that were checked
+pub judged-book : (S B C : List ℕ) {l : Layout} → monthAnswer S B C ≡ good l → checkBook S (length B) ≡ good l
+unfolding monthAnswer
+judged-book S B C {l} = go (checkBook S (length B))
+  where
+    by : (k : Layout) (b : Bool) (n : ℕ) → cond b (good k) (refused n 0) ≡ good l → good k ≡ good l
+    by k true n e = e
+    by k false n e = absurd (refused-good e)
+
+    go : (x : Outcome Layout) → follow x (λ k. cond (eqb (choose (monthCauses S B C k) 0) 0) (good k) (refused (choose (monthCauses S B C k) 0) 0)) ≡ good l → x ≡ good l
+    go (refused n o) e = absurd (refused-good e)
+    go (good k) e = by k (eqb (choose (monthCauses S B C k) 0) 0) (choose (monthCauses S B C k) 0) e

@@ -3,15 +3,16 @@
 use Prim.Native.Nat.{ℕ, zero, suc, _+_, _-_, _*_, _/_, _≤_, _<_, zero-le}
 use mathlib.Core.Bool.{Bool, true, false, cond, _&&_, false≢true}
 use mathlib.Core.List.{List, [], _∷_}
-use mathlib.Core.Path.{_≡_, refl}
+use mathlib.Core.Path.{_≡_, refl, sym, _∙_}
 use native.Mathlib.Nat.{le-refl, le-trans, mul-le-mul-left}
 use native.Mathlib.Omega.{arith}
 use lib.Dec.{ltb, eqb, lit≤}
-use lib.ListN.{length, getD, take, drop, length-append, length-drop}
+use lib.ListN.{length, take, drop, length-append, length-drop}
 use borrow.Author.Tests.{ltb-true, ltb-false, eqb-false}
-use Rattle.wire.specs.Bytes.{u16At, u32At}
+use Rattle.wire.specs.Bytes.{u16At}
 use Rattle.wire.specs.Choose.{within}
 use Rattle.wire.specs.Cut.{firstLength, cutIn, cut}
+use Rattle.wire.specs.Lists.{over}
 use Rattle.wire.specs.Sums.{count}
 use Rattle.wire.proofs.Bools.{range}
 use Rattle.wire.proofs.Choose.{choose-most}
@@ -21,44 +22,28 @@ use Rattle.wire.proofs.Sums.{count-blocks}
 use Rattle.rules.specs.Verdict.{version96, code, isViolation}
 use Rattle.rules.specs.Month.{Cells}
 use Rattle.rules.specs.Marks.{places, dayOf, groupOf}
-use Rattle.rules.specs.declared.Totals.{Totals}
-use Rattle.schedule.specs.Check.{Outcome, refused, good, follow, given, checkOf}
+use Rattle.schedule.specs.Outcome.{Outcome, refused, good, follow, given}
+use Rattle.schedule.specs.Check.{checkOf}
 use Rattle.schedule.specs.Lookup.{groupAt}
-use Rattle.schedule.specs.declared.scan.Layout.{Layout}
+use Rattle.schedule.specs.declared.lookup.Layout.{Layout}
 use Rattle.schedule.proofs.Good.{good-schedule}
 use Rattle.book.specs.Accepted.{posted}
 use Rattle.book.specs.Book.{cellAt, checkBook, openBook}
-use Rattle.book.specs.Post.{indexOf, isCounted, cause, outside, counted, answerUnder, postAnswer, postBook}
+use Rattle.book.specs.Post.{indexOf, isCountedRecord, postCause, outside, counted, answerUnder, postAnswer, postBook}
+use Rattle.book.specs.declared.cells.Cell.{Cell}
 use Rattle.book.proofs.Checked.{by-room, sized}
+use Rattle.statement.specs.Layout.{lineSize, totalsSize, bothTotals, largest}
 use Rattle.statement.specs.Statement as statement
-use Rattle.statement.specs.Statement.{terms, monthOf, statementBytes, firmCells, firmMonth, outputUnder}
+use Rattle.month.specs.Month.{terms, monthOf, firmTotals, firmMonth, monthAnswer}
+use Rattle.month.proofs.Answers.{judged-book}
+use Rattle.statement.specs.Statement.{statementBytes, need, outputUnder}
 use Rattle.statement.proofs.Shown.{bytes-length}
-use Rattle.report.specs.Input.{isActivity, recordsFrom, scheduleOf, activityOf}
-use Rattle.report.specs.Lines.{tooLong, refusedAt, heading, refusedLine, postLine, markWord, counts, charge, violationLine, totalsLine, statementLines, firmLines}
-use Rattle.report.specs.Report.{bookSize, statementSize, zeros, postLines, codeOf, statementOf, monthLines, scheduleLines, report}
-use Rattle.report.specs.Text.{decimal}
-use Rattle.report.specs.Laws.{outputSize}
-use Rattle.report.proofs.Decimal.{decimal-most, decimal-two}
-
--- the line of a refused schedule or book
-refused-at-most : (n o : ℕ) → length (refusedAt n o) ≤ 53
-unfolding refusedAt
-refused-at-most n o = simp length-append (omega (arith, decimal-most n, decimal-most o))
-
--- the heading
-heading-most : (n : ℕ) → length (heading n) ≤ 25
-unfolding heading
-heading-most n = simp length-append (omega (arith, decimal-most n))
-
--- the line of a refusal, of any number
-refused-most : (n : ℕ) → length (refusedLine n) ≤ 29
-unfolding refusedLine
-refused-most n = simp length-append (omega (arith, decimal-most n))
-
--- and of one below 100
-refused-two : (n : ℕ) → n < 100 → length (refusedLine n) ≤ 11
-unfolding refusedLine
-refused-two n h = simp length-append (omega (arith, decimal-two n h))
+use Rattle.report.specs.Input.{inputLimit, isActivity, recordsFrom, scheduleOf, activityOf}
+use Rattle.text.specs.Lines.{violationLine}
+use Rattle.text.proofs.Bounds.{refused-at-most, heading-most, refused-most, refused-two, violation-most, totals-most}
+use Rattle.report.specs.Report.{bookSize, zeros, tooLong, postLine, postLines, statementLines, firmLines, codeOf, statementOf}
+use Rattle.report.specs.Report.{monthLines, scheduleLines, report}
+use Rattle.report.specs.Answer.{outputSize}
 
 -- a run has a record for every four bytes at the most, and one for a tail: a record has four bytes or more, or is all the rest
 records-most : (fuel : ℕ) (S : List ℕ) → 4 * length (cutIn fuel S) ≤ length S + 3
@@ -90,48 +75,30 @@ activity-most (R ∷ rs) = go (isActivity R) (activity-most rs)
     go true ih = le-refl _
     go false ih = omega arith
 
--- the longest word of a mark is "automatic"
-word-most : (m : ℕ) → length (markWord m) ≤ 9
-unfolding markWord
-word-most m = choose-most length 9 _ refl (lit≤ tt)
-
 -- C is a firm's code
 module _ (C : List ℕ) (three : length C ≡ 3) where
-  -- the line of a violation
-  violation-most : (L : List ℕ) → length (violationLine C L) ≤ 59
-  unfolding violationLine charge
-  violation-most L = simp length-append (omega (arith, decimal-most (getD L 4 0), word-most (getD L 7 0), decimal-most (u32At L 8)))
-
-  -- the line of a grouping's totals
-  totals-most : (L : List ℕ) → length (totalsLine C L) ≤ 140
-  unfolding totalsLine counts
-  totals-most L =
-      let first = decimal-most (getD L 4 0) in
-      let two : (i : ℕ) → length (decimal (u16At L i)) ≤ 20 = λ i. decimal-most (u16At L i) in
-      simp length-append (omega (arith, two 6, two 8, two 10, two 12, decimal-most (u32At L 14)))
-
   -- the lines of a statement with v violations
-  statement-most : (R : List ℕ) (v bytes : ℕ) → bytes ≡ 12 * v + 36 → length (statementLines C R bytes) ≤ v * 59 + 280
+  statement-most : (R : List ℕ) (v bytes : ℕ) → bytes ≡ lineSize * v + bothTotals → length (statementLines C R bytes) ≤ v * 59 + 280
   unfolding statementLines
   statement-most R v bytes e =
-      let n : (bytes - 36) / 12 ≡ v = omega arith in
-      let lines = joined-most v 59 (λ i. violationLine C (drop (12 * i) R)) (λ i. violation-most (drop (12 * i) R)) in
-      rw n (simp length-append (omega (arith, totals-most (drop (bytes - 36) R), totals-most (drop (bytes - 18) R))))
+      let n : (bytes - bothTotals) / lineSize ≡ v = omega arith in
+      let lines = joined-most v 59 (λ i. violationLine C (drop (lineSize * i) R)) (λ i. violation-most C three (drop (lineSize * i) R)) in
+      rw n (simp length-append (omega (arith, totals-most C three (drop (bytes - bothTotals) R), totals-most C three (drop (bytes - totalsSize) R))))
 
 -- a firm has at most a violation a day in each group: a place past the last group has none
 violations-most : (S : List ℕ) (l : Layout) (c : Cells) → count places (λ i. isViolation (monthOf S l c .code i)) ≤ 31 * l .groups
 violations-most S l c = count-blocks (λ i. isViolation (monthOf S l c .code i)) (l .groups) (λ i. go i (ltb (groupOf i) (l .groups)) refl) 31
   where
     go : (i : ℕ) (b : Bool) → ltb (groupOf i) (l .groups) ≡ b
-        → isViolation (cond (b && terms S l .inEffect (dayOf i)) (code version96 (groupAt S (groupOf i) .benchmark) 1 (c (groupOf i) (dayOf i))) 0) ≡ true
+        → isViolation (cond (b && terms S l .inEffect (dayOf i)) (code version96 (groupAt S l (groupOf i) .benchmark) 1 (c (groupOf i) (dayOf i))) 0) ≡ true
         → groupOf i < l .groups
     go i true e v = ltb-true _ _ e
     go i false e v = absurd (false≢true v)
 
 -- the greatest number of a refused record
-cause-most : (S : List ℕ) (l : Layout) (t : Totals) (R : List ℕ) → cause S l t R ≤ 18
-unfolding cause
-cause-most S l t R = choose-most (λ n. n) 18 _ refl zero-le
+cause-most : (S : List ℕ) (l : Layout) (c : Cell) (R : List ℕ) → postCause S l c R ≤ 18
+unfolding postCause
+cause-most S l c R = choose-most (λ n. n) 18 _ refl zero-le
 
 -- so many bytes a firm's lines have at the most
 abbrev firmMost : Layout → ℕ
@@ -144,9 +111,9 @@ module _ (S : List ℕ) {l : Layout} (e : checkOf S ≡ good l) where
       by-room S (length B) e (λ c. length (postLine (follow c (answerUnder S B R))) ≤ 11) (refused-two 8 (lit≤ tt)) (λ h. go (eqb n 0))
     where
       n : ℕ
-      n = cause S l (cellAt B (indexOf S l R)) R
+      n = postCause S l (cellAt B (indexOf S l R)) R
 
-      go : (b : Bool) → length (postLine (cond b (good (cond (isCounted S l R) counted outside)) (refused n 0))) ≤ 11
+      go : (b : Bool) → length (postLine (cond b (good (cond (isCountedRecord S l R) counted outside)) (refused n 0))) ≤ 11
       go true = zero-le
       go false = refused-two n (omega (arith, cause-most S l (cellAt B (indexOf S l R)) R))
 
@@ -159,26 +126,27 @@ module _ (S : List ℕ) {l : Layout} (e : checkOf S ≡ good l) where
   -- a firm has its statement's lines, or that of a refusal
   firm-most : (B : List ℕ) (f : ℕ) → length (statementOf S l B f) ≤ firmMost l
   unfolding statementOf
-  firm-most B f =
-      by-room S (length B) e (λ c. length (firmLines C (given c out (outputUnder S B C out)) (follow c (statement.answerUnder S B C out))) ≤ firmMost l)
-      (le-trans (refused-most 8) (omega arith))
-      (λ h. go (eqb n 0))
+  firm-most B f = go (monthAnswer S B C) refl
     where
       C : List ℕ
       C = codeOf S l f
 
       out : List ℕ
-      out = zeros statementSize
+      out = zeros largest
 
-      n : ℕ
-      n = statement.cause S B C l (length out)
-
-      go : (b : Bool) → length (firmLines C (outputUnder S B C out l) (cond b (good (length (statementBytes S (firmMonth S B C l)))) (refused n 0))) ≤ firmMost l
-      go true =
+      by : (b : Bool)
+          → length (firmLines C (cond b out (over (statementBytes S l (firmMonth S B C l)) out)) (cond b (refused 23 0) (good (length (statementBytes S l (firmMonth S B C l)))))) ≤ firmMost l
+      by true = le-trans (refused-most 23) (omega arith)
+      by false =
           let j = firmMonth S B C l in
           let v = count places (λ i. isViolation (j .code i)) in
-          omega (arith, violations-most S l (firmCells S B C l), statement-most C refl (outputUnder S B C out l) v _ (bytes-length S j))
-      go false = le-trans (refused-most n) (omega arith)
+          omega (arith, violations-most S l (firmTotals S B C l), statement-most C refl (over (statementBytes S l j) out) v _ (bytes-length S l j))
+
+      go : (x : Outcome Layout) → monthAnswer S B C ≡ x → length (firmLines C (given x out (outputUnder S B C out)) (follow x (statement.answerUnder S B C out))) ≤ firmMost l
+      go (refused n o) q = le-trans (refused-most n) (omega arith)
+      go (good k) q =
+          let same : k ≡ l = let h = sym (sized S (length B) (judged-book S B C q) .schedule) ∙ e in cc in
+          rw same (by (ltb (length out) (need (firmMonth S B C l))))
 
 -- a month has its heading, and the lines of its posts and firms: the book holds 93 numbers for each group of each firm, so these are at most 88
 month-most : (S : List ℕ) {l : Layout} → checkBook S bookSize ≡ good l → (rs : List (List ℕ)) → length (monthLines S l rs) ≤ 185617 + 11 * length rs
@@ -192,14 +160,21 @@ month-most S {l} c rs =
     simp length-append (omega (arith, heading-most (l .month), posts-most S (z .schedule) B rs))
 
 -- no report is longer than the program's output
-pub fits : (I : List ℕ) → length (report I) ≤ outputSize
-unfolding report
-fits I = go (ltb 65536 (length I)) refl
-  where
-    by : (c : Outcome Layout) → checkBook (scheduleOf I) bookSize ≡ c → length I ≤ 65536 → length (scheduleLines (scheduleOf I) (activityOf I) c) ≤ 524288
-    by (refused n o) e h = le-trans (refused-at-most n o) (lit≤ tt)
-    by (good l) e h = omega (arith, month-most (scheduleOf I) e (activityOf I), activity-most (cut I), records-most (length I) I)
+module _ (I : List ℕ) where
+  abbrev S : List ℕ
+  S = scheduleOf I
 
-    go : (b : Bool) → ltb 65536 (length I) ≡ b → length (cond b tooLong (scheduleLines (scheduleOf I) (activityOf I) (checkBook (scheduleOf I) bookSize))) ≤ 524288
-    go true e = lit≤ tt
-    go false e = by (checkBook (scheduleOf I) bookSize) refl (ltb-false _ _ e)
+  abbrev rs : List (List ℕ)
+  rs = activityOf I
+
+  pub fits : length (report I) ≤ outputSize
+  unfolding report
+  fits = go (ltb inputLimit (length I)) refl
+    where
+      by : (c : Outcome Layout) → checkBook S bookSize ≡ c → length I ≤ inputLimit → length (scheduleLines S rs c) ≤ outputSize
+      by (refused n o) e h = le-trans (refused-at-most n o) (lit≤ tt)
+      by (good l) e h = omega (arith, month-most S e rs, activity-most (cut I), records-most (length I) I)
+
+      go : (b : Bool) → ltb inputLimit (length I) ≡ b → length (cond b tooLong (scheduleLines S rs (checkBook S bookSize))) ≤ outputSize
+      go true e = lit≤ tt
+      go false e = by (checkBook S bookSize) refl (ltb-false _ _ e)

@@ -1,22 +1,35 @@
 -- What a firm's lines come to: those of its statement, or the number of a refusal.
 -- Assumes nothing.
-use Prim.Native.Nat.{ℕ}
+use Prim.Native.Nat.{ℕ, _≤_}
 use mathlib.Core.List.{List}
-use mathlib.Core.Path.{_≡_}
-use Rattle.schedule.specs.Check.{refused, good}
-use Rattle.schedule.specs.declared.scan.Layout.{Layout}
-use Rattle.statement.specs.Statement.{statementAnswer, statementOutput}
-use Rattle.report.specs.Lines.{refusedLine, statementLines}
-use Rattle.report.specs.Report.{statementSize, zeros, codeOf, statementOf}
+use mathlib.Core.Path.{_≡_, sym, ap, _∙_}
+use lib.ListN.{length}
+use Rattle.schedule.specs.declared.lookup.Layout.{Layout}
+use Rattle.statement.specs.Layout.{bothTotals, largest}
+use Rattle.statement.specs.Statement.{statedMeaning, statementAnswer, StatementIs}
+use Rattle.statement.specs.declared.Stated.{Stated}
+use Rattle.statement.specs.declared.Stated.the-variants as stated
+use Rattle.statement.proofs.Answers.{written-bounds}
+use Rattle.text.specs.Lines.{refusedLine}
+use Rattle.report.specs.Report.{zeros, statementLines, codeOf, statementOf}
 
--- C is firm f's code, and out the output before the statement
-module _ (S : List ℕ) (l : Layout) (B : List ℕ) (f : ℕ) {C out : List ℕ} (code : C ≡ codeOf S l f) (blank : out ≡ zeros statementSize) where
-  -- a refused statement
-  pub lines-refused : {n o : ℕ} → statementAnswer S B C out ≡ refused n o → refusedLine n ≡ statementOf S l B f
-  unfolding statementOf
-  lines-refused e = rw (← code, ← blank, e)
+-- a statement of the firm with the code C, its answer r, and the output before and after it
+module _ (S B : List ℕ) {C out R : List ℕ} {r : Stated} (s : StatementIs S B C out r R) where
+  answered : {a : Stated} → r ≡ a → statementAnswer S B C out ≡ statedMeaning a
+  answered e = sym (s .answer) ∙ ap statedMeaning e
 
-  -- a statement that was written, and left R in the output
-  pub lines-written : {n : ℕ} {R : List ℕ} → statementAnswer S B C out ≡ good n → R ≡ statementOutput S B C out → statementLines C R n ≡ statementOf S l B f
-  unfolding statementOf
-  lines-written e r = rw (r, ← code, ← blank, e)
+  -- where it was written it has its two totals, and stands within the output
+  pub lines-within : {n : ℕ} → r ≡ stated.Written n → (bothTotals ≤ n) × (n ≤ length out)
+  lines-within e = written-bounds S B C out (answered e)
+
+  -- C is firm f's code, and the output was blank
+  module _ (l : Layout) (f : ℕ) (code : C ≡ codeOf S l f) (blank : out ≡ zeros largest) where
+    -- a refused statement
+    pub lines-refused : {n o : ℕ} → r ≡ stated.Refused n o → refusedLine n ≡ statementOf S l B f
+    unfolding statementOf
+    lines-refused e = rw (← code, ← blank, answered e)
+
+    -- a statement that was written
+    pub lines-written : {n : ℕ} → r ≡ stated.Written n → statementLines C R n ≡ statementOf S l B f
+    unfolding statementOf
+    lines-written e = rw (s .output, ← code, ← blank, answered e)

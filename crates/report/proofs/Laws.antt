@@ -3,25 +3,34 @@
 use Prim.Native.Nat.{ℕ, _≤_, zero-le}
 use mathlib.Core.List.{List}
 use mathlib.Core.Path.{_≡_, _∙_}
-use native.Mathlib.Nat.{le-refl}
+use native.Mathlib.Nat.{le-refl, zero-add}
 use native.Mathlib.Omega.{arith}
 use lib.ListN.{length, take}
 use lib.Seq.{take-all, take-paste}
-use Rattle.report.specs.Text.{room, Wrote}
+use borrow.Author.Tests.{eq-eqb}
+use Rattle.text.specs.Text.{room}
+use Rattle.report.specs.Report.{report}
+use Rattle.report.specs.Answer.{outputSize, whole, reportAnswer, reportOutput}
 use Rattle.report.specs.Laws.{Laws}
+use Rattle.report.proofs.Answers.{answer-within}
 use Rattle.report.proofs.Bounds.{fits}
 use Rattle.report.proofs.FirmShown.{firm-shown}
 
--- a text that has room stands whole over the output's front
-wrote-all : {O T O′ : List ℕ} {r : ℕ} → length T ≤ length O → Wrote O 0 T r O′ → take r O′ ≡ T
-wrote-all {O} {T} h w =
-    let all : room O 0 T ≡ length T = omega arith in
-    rw (w .next, w .output, all) (take-paste O 0 T (length T) zero-le (le-refl _) ∙ take-all (length T) T (le-refl _))
+-- of an output of that size
+module _ (I O : List ℕ) (h : outputSize ≤ length O) where
+  -- all of the report has room
+  all : room O 0 (report I) ≡ length (report I)
+  all = omega (arith, fits I)
+
+  -- the answer is whole
+  answer : reportAnswer I O ≡ whole (length (report I))
+  answer = rw (all, eq-eqb (length (report I)) (length (report I)))
+
+  -- its bytes are the report
+  printed : take (length (report I)) (reportOutput I O) ≡ report I
+  printed =
+      let n = length (report I) in
+      rw (all, zero-add) ((rw zero-add at (take-paste O 0 (report I) n zero-le (le-refl _))) ∙ take-all n (report I) (le-refl _))
 
 pub laws : Laws
-laws =
-    record {
-      fits = fits;
-      whole = λ I O O′ r h w. wrote-all (omega (arith, fits I, h)) w;
-      firms = firm-shown;
-    }
+laws = record { fits = fits; answer = answer; printed = printed; within = answer-within; firms = firm-shown }

@@ -10,26 +10,26 @@ use Rattle.wire.specs.Cut.{firstLength, cut}
 use Rattle.wire.proofs.Cut.{first-in, cut-none, cut-next}
 use Rattle.book.specs.Accepted.{posted}
 use Rattle.book.specs.Post.{postAnswer, postBook}
-use Rattle.report.specs.Text.{Wrote}
-use Rattle.report.specs.Lines.{postLine}
-use Rattle.report.specs.Report.{postLines}
-use Rattle.report.proofs.Writing.{wrote-none, wrote-then}
+use Rattle.text.specs.declared.Place.{Place}
+use Rattle.text.specs.Text.{Wrote}
+use Rattle.text.proofs.Writing.{wrote-none, _then_}
+use Rattle.report.specs.Report.{postLine, postLines}
 
--- the run A was posted up to the place `from`, to the book B₀, which is now B; from `at` on stand its lines so far
-pub record Posting (S B₀ A O : List ℕ) (at : ℕ) (O′ B : List ℕ) (next from : ℕ) : Type 0 where
+-- the run A was posted up to the place `from`, to the book B₀, which is now B; from p on stand its lines so far
+pub record Posting (S B₀ A O : List ℕ) (p : Place) (O′ B : List ℕ) (next : Place) (from : ℕ) : Type 0 where
   pub done : List ℕ
-  pub wrote : Wrote O at done next O′
+  pub wrote : Wrote O p done next O′
   pub lines : done ++ postLines S B (cut (drop from A)) ≡ postLines S B₀ (cut A)
   pub book : posted S B (cut (drop from A)) ≡ posted S B₀ (cut A)
   pub inside : from ≤ length A
   pub kept : length B ≡ length B₀
 
-module _ (S B₀ A O : List ℕ) (at : ℕ) where
+module _ (S B₀ A O : List ℕ) (p : Place) where
   -- nothing is posted yet
-  pub posting-none : at ≤ length O → Posting S B₀ A O at O B₀ at 0
-  posting-none h = record { done = []; wrote = wrote-none O at h; lines = refl; book = refl; inside = omega arith; kept = refl }
+  pub posting-none : Posting S B₀ A O p O B₀ p 0
+  posting-none = record { done = []; wrote = wrote-none O p; lines = refl; book = refl; inside = omega arith; kept = refl }
 
-  module _ {O′ B : List ℕ} {next from : ℕ} (p : Posting S B₀ A O at O′ B next from) where
+  module _ {O′ B : List ℕ} {next : Place} {from : ℕ} (so-far : Posting S B₀ A O p O′ B next from) where
     -- the record that is posted next
     abbrev Next : List ℕ
     Next = take (firstLength (drop from A)) (drop from A)
@@ -41,8 +41,8 @@ module _ (S B₀ A O : List ℕ) (at : ℕ) where
         cut-next (drop from A) (omega arith) ∙ ap (λ X. Next ∷ cut X) (drop-drop (firstLength (drop from A)) from A)
 
     -- its line is written and the book is as its post left it
-    pub posting-next : {O″ B″ : List ℕ} {next′ : ℕ} → from < length A → Wrote O′ next (postLine (postAnswer S B Next)) next′ O″
-        → B″ ≡ postBook S B Next → length B″ ≡ length B → Posting S B₀ A O at O″ B″ next′ (from + firstLength (drop from A))
+    pub posting-next : {O″ B″ : List ℕ} {next′ : Place} → from < length A → Wrote O′ next (postLine (postAnswer S B Next)) next′ O″
+        → B″ ≡ postBook S B Next → length B″ ≡ length B → Posting S B₀ A O p O″ B″ next′ (from + firstLength (drop from A))
     unfolding postLines posted
     posting-next {O″} {B″} {next′} more w b k =
         let n = firstLength (drop from A) in
@@ -50,21 +50,21 @@ module _ (S B₀ A O : List ℕ) (at : ℕ) where
         let left = length-drop from A in
         let most = first-in (drop from A) .most in
         record {
-          done = p .done ++ L;
-          wrote = wrote-then (p .wrote) w;
+          done = so-far .done ++ L;
+          wrote = so-far .wrote then w;
           lines =
-              append-assoc (p .done) L (postLines S B″ (cut (drop (from + n) A)))
-              ∙ ap (λ X. p .done ++ (L ++ postLines S X (cut (drop (from + n) A)))) b
-              ∙ ap (λ rs. p .done ++ postLines S B rs) (sym (rest more))
-              ∙ p .lines;
-          book = ap (λ X. posted S X (cut (drop (from + n) A))) b ∙ ap (posted S B) (sym (rest more)) ∙ p .book;
+              append-assoc (so-far .done) L (postLines S B″ (cut (drop (from + n) A)))
+              ∙ ap (λ X. so-far .done ++ (L ++ postLines S X (cut (drop (from + n) A)))) b
+              ∙ ap (λ rs. so-far .done ++ postLines S B rs) (sym (rest more))
+              ∙ so-far .lines;
+          book = ap (λ X. posted S X (cut (drop (from + n) A))) b ∙ ap (posted S B) (sym (rest more)) ∙ so-far .book;
           inside = omega (arith, most, left, more);
-          kept = k ∙ p .kept;
+          kept = k ∙ so-far .kept;
         }
 
     -- all of it is posted
-    pub posting-all : length A ≤ from → Wrote O at (postLines S B₀ (cut A)) next O′ × (B ≡ posted S B₀ (cut A))
+    pub posting-all : length A ≤ from → Wrote O p (postLines S B₀ (cut A)) next O′ × (B ≡ posted S B₀ (cut A))
     unfolding postLines posted
     posting-all h =
         let none : cut (drop from A) ≡ [] = cut-none (length (drop from A)) (drop from A) (simp length-drop (omega arith)) in
-        (rw (← p .lines, none, append-nil) (p .wrote), ap (posted S B) (sym none) ∙ p .book)
+        (rw (← so-far .lines, none, append-nil) (so-far .wrote), ap (posted S B) (sym none) ∙ so-far .book)

@@ -1,4 +1,4 @@
--- Computed examples of what mep-statement prints: document 01's whole run, and what is refused.
+-- Computed examples of what mep-statement prints: document 01's whole run, what is refused, and a text that is cut.
 -- Assumes nothing.
 use Prim.Native.Nat.{ℕ}
 use mathlib.Core.List.{List, [], _∷_, _++_}
@@ -8,24 +8,25 @@ use Rattle.wire.specs.Choose.{choose, all, seekIn}
 use Rattle.wire.specs.Cut.{firstLength, cutIn}
 use Rattle.wire.specs.Lists.{joined}
 use Rattle.wire.specs.Sums.{sum}
+use Rattle.calendar.specs.Calendar.{daysIn}
 use Rattle.rules.specs.Verdict.{code}
-use Rattle.schedule.specs.Calendar.{daysIn}
-use Rattle.schedule.specs.Counted.{contractListed, contractCounted, inFront, isAfter, isCounted, contractIs}
-use Rattle.schedule.specs.Fields.{isCode, headOk, listed, contract, before, contractBad, contractsOk, groupOk, groupFields, firmOk}
+use Rattle.records.specs.Fields.{headFields, headOk, groupFields, groupInRange, contractsOk, contractBad, before, contract, listed, isLetter, firmFields, firmOk, hasCode}
+use Rattle.records.specs.Counted.{contractListed, contractCounted, inFront, isAfter, isCounted, contractIs}
 use Rattle.schedule.specs.Lookup.{groupStart, groupIs, firmIs, groupListed, firmListed}
-use Rattle.schedule.specs.Check.{byKind, isDue, lengthOk, isFull, fieldsOk, isRepeated, cause as recordCause, after, ending, scan, checkOf}
+use Rattle.schedule.specs.Check.{checkOf, scan, ending, grown, cause, isRepeated, fieldsOk, isFull, lengthOk, isDue, kindOf}
 use Rattle.book.specs.Activity.{totalsOf}
 use Rattle.book.specs.Book.{checkBook}
-use Rattle.book.specs.Post.{cause as postCause}
+use Rattle.book.specs.Post.{postCause}
 use Rattle.book.specs.Accepted.{posted}
 use Rattle.book.specs.Samples.{firm}
-use Rattle.statement.specs.Example.{schedule, run, threeGroups, manyMarks}
+use Rattle.month.specs.Month.{anyExcess, monthAnswer}
 use Rattle.statement.specs.Lines.{lineAt, tally, shown}
-use Rattle.statement.specs.Statement.{spoilt, cause}
+use Rattle.guarantee.specs.Example.{schedule, run, threeGroups, manyMarks}
+use Rattle.text.specs.Text.{text, decimal}
+use Rattle.text.specs.Lines.{refusedAt, heading, refusedLine, markWord, charge, counts, violationLine, totalsLine}
 use Rattle.report.specs.Input.{bytesBefore, recordsFrom}
-use Rattle.report.specs.Text.{text, decimal}
-use Rattle.report.specs.Lines.{refusedAt, heading, refusedLine, markWord, charge, counts, violationLine, totalsLine, statementLines}
-use Rattle.report.specs.Report.{zeros, postLines, statementOf, monthLines, report}
+use Rattle.report.specs.Report.{zeros, postLines, statementLines, statementOf, monthLines, report}
+use Rattle.report.specs.Answer.{whole, cut, reportAnswer, reportOutput}
 
 -- records as one run of bytes
 abbrev flat : List (List ℕ) → List ℕ
@@ -71,7 +72,28 @@ pub record Example : Type 0 where
   pub noBytes : report [] ≡ text "refused 4 at 0\n"
   pub firmFirst : report firm ≡ text "refused 2 at 0\n"
   pub tail : report (schedule ++ 44 ∷ 0 ∷ []) ≡ text "refused 1 at 35\n"
+  -- a text of 15 bytes: whole in an output of 16, cut in one of 14
+  pub wholeAnswer : reportAnswer [] (zeros 16) ≡ whole 15
+  pub wholeOutput : reportOutput [] (zeros 16) ≡ text "refused 4 at 0\n" ++ 0 ∷ []
+  pub cutAnswer : reportAnswer [] (zeros 14) ≡ cut 14
+  pub cutOutput : reportOutput [] (zeros 14) ≡ text "refused 4 at 0"
 
 pub example : Example
-unfolding posted checkBook checkOf scan ending after recordCause postCause isRepeated fieldsOk isFull lengthOk isDue byKind firmListed groupListed firmIs groupIs groupStart firmOk groupOk contractsOk contractBad before contract listed headOk isCode contractIs isCounted isAfter inFront contractCounted contractListed groupFields daysIn sum joined seekIn all choose u32At u16At totalsOf code spoilt cause lineAt tally shown firstLength cutIn bytesBefore recordsFrom decimal refusedAt heading refusedLine markWord charge counts violationLine totalsLine statementLines zeros postLines statementOf monthLines report
-example = record { wholeRun = refl; fourMarks = refl; quiet = refl; noBytes = refl; firmFirst = refl; tail = refl }
+unfolding posted postCause totalsOf checkBook checkOf scan ending grown cause isRepeated fieldsOk isFull lengthOk isDue kindOf
+    firmListed groupListed firmIs groupIs groupStart firmOk firmFields hasCode groupInRange groupFields contractsOk contractBad before contract
+    listed headOk headFields isLetter contractIs isCounted isAfter inFront contractCounted contractListed daysIn sum joined seekIn all choose u32At
+    u16At code anyExcess monthAnswer lineAt tally shown firstLength cutIn bytesBefore recordsFrom decimal refusedAt heading refusedLine markWord
+    charge counts violationLine totalsLine statementLines zeros postLines statementOf monthLines report
+example =
+    record {
+      wholeRun = refl;
+      fourMarks = refl;
+      quiet = refl;
+      noBytes = refl;
+      firmFirst = refl;
+      tail = refl;
+      wholeAnswer = refl;
+      wholeOutput = refl;
+      cutAnswer = refl;
+      cutOutput = refl;
+    }

@@ -7,11 +7,16 @@ use mathlib.Core.List.{List, [], _∷_, _++_}
 use lib.Dec.{leb, eqb}
 use lib.ListN.{length}
 use Rattle.wire.specs.Cut.{cut}
-use Rattle.schedule.specs.Lookup.{kindAt}
+use Rattle.records.specs.Bodies.{kindAt}
+use Rattle.book.specs.Activity.{activityKind}
+
+-- reads standard input, at most 65,536 bytes
+abbrev pub inputLimit : ℕ
+inputLimit = 65536
 
 -- a record of four bytes or more whose kind is 4
 abbrev pub isActivity : (R : List ℕ) → Bool
-isActivity R = leb 4 (length R) && eqb (kindAt R 0) 4
+isActivity R = leb 4 (length R) && eqb (kindAt R 0) activityKind
 
 -- the bytes of the records before the first activity
 unfoldable pub bytesBefore : (rs : List (List ℕ)) → List ℕ

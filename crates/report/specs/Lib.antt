@@ -1,6 +1,5 @@
 pub mod Input
-pub mod Text
-pub mod Lines
 pub mod Report
+pub mod Answer
 pub mod Example
 pub mod Laws

@@ -1,49 +1,75 @@
 -- What mep-statement prints for an input (document 01, "Eleven marked days, a month and one whole run"). I is the input, S the schedule, l what
--- it holds, rs the activity records, B the book.
+-- it holds, rs the activity records, B the book, C a firm's code.
 -- Assumes nothing.
-use Prim.Native.Nat.{ℕ, _+_, _*_}
+use Prim.Native.Nat.{ℕ, _+_, _-_, _*_, _/_}
 use mathlib.Core.Bool.{cond}
 use mathlib.Core.List.{List, [], _∷_, _++_}
 use lib.Dec.{ltb}
-use lib.ListN.{length, getD, replicate}
+use lib.ListN.{length, getD, drop, replicate}
 use Rattle.wire.specs.Lists.{joined}
 use Rattle.schedule.specs.Lookup.{firmStart}
-use Rattle.schedule.specs.Check.{Outcome, refused, good}
-use Rattle.schedule.specs.declared.scan.Layout.{Layout}
+use Rattle.records.specs.Bodies.{bodyAt}
+use Rattle.records.specs.Fields.{firmFields, letters}
+use Rattle.schedule.specs.Outcome.{Outcome, refused, good}
+use Rattle.schedule.specs.declared.lookup.Layout.{Layout}
 use Rattle.book.specs.Accepted.{posted}
-use Rattle.book.specs.Book.{checkBook, openBook}
-use Rattle.book.specs.Post.{postAnswer, postBook}
+use Rattle.book.specs.Book.{perFirmGroup, checkBook, openBook}
+use Rattle.book.specs.Post.{Effect, postAnswer, postBook}
+use Rattle.statement.specs.Layout.{lineSize, totalsSize, bothTotals, largest}
 use Rattle.statement.specs.Statement.{statementAnswer, statementOutput}
-use Rattle.report.specs.Input.{scheduleOf, activityOf}
-use Rattle.report.specs.Lines.{tooLong, refusedAt, heading, postLine, firmLines}
+use Rattle.text.specs.Text.{text}
+use Rattle.text.specs.Lines.{refusedAt, heading, refusedLine, violationLine, totalsLine}
+use Rattle.report.specs.Input.{inputLimit, scheduleOf, activityOf}
 
 -- Its book fits 88 firm-groups
-abbrev pub bookSize : ℕ
-bookSize = 88 * 93
+abbrev pub firmGroups : ℕ
+firmGroups = 88
 
--- an output that no statement is too long for: a line on each of 992 places, and two totals
-abbrev pub statementSize : ℕ
-statementSize = 12 * 992 + 36
+-- the numbers of its book
+abbrev pub bookSize : ℕ
+bookSize = firmGroups * perFirmGroup
 
 -- a book or an output before its first use
 unfoldable pub zeros : ℕ → List ℕ
 zeros n = replicate n 0
+
+-- more than 65,536 bytes
+abbrev pub tooLong : List ℕ
+tooLong = text "too long\n"
+
+-- a posted record has a line where it is refused
+abbrev pub postLine : Outcome Effect → List ℕ
+postLine (refused number offset) = refusedLine number
+postLine (good effect) = []
 
 -- "refused N" lines if any: each post takes the book as the one before left it
 unfoldable pub postLines : (S B : List ℕ) → (rs : List (List ℕ)) → List ℕ
 postLines S B [] = []
 postLines S B (R ∷ rs) = postLine (postAnswer S B R) ++ postLines S (postBook S B R) rs
 
+module _ (C : List ℕ) where
+  -- a statement R of so many bytes: its violations, then its two totals
+  unfoldable pub statementLines : (R : List ℕ) → (bytes : ℕ) → List ℕ
+  statementLines R bytes =
+      joined ((bytes - bothTotals) / lineSize) (λ i. violationLine C (drop (lineSize * i) R))
+      ++ totalsLine C (drop (bytes - bothTotals) R)
+      ++ totalsLine C (drop (bytes - totalsSize) R)
+
+  -- a firm's violations and totals; a statement that is refused would show its number, and in a report none is (Laws.antt)
+  abbrev pub firmLines : (R : List ℕ) → Outcome ℕ → List ℕ
+  firmLines R (refused number offset) = refusedLine number
+  firmLines R (good bytes) = statementLines R bytes
+
 module _ (S : List ℕ) (l : Layout) where
   -- the code of firm f, from 0
   abbrev pub codeOf : (f : ℕ) → List ℕ
-  codeOf f = let at = firmStart (l .start) f in getD S (at + 4) 0 ∷ getD S (at + 5) 0 ∷ getD S (at + 6) 0 ∷ []
+  codeOf f = letters (firmFields (bodyAt S (firmStart (l .start) f)))
 
   -- then per firm its violations and totals
   unfoldable pub statementOf : (B : List ℕ) → (f : ℕ) → List ℕ
   statementOf B f =
       let C = codeOf f in
-      let out = zeros statementSize in
+      let out = zeros largest in
       firmLines C (statementOutput S B C out) (statementAnswer S B C out)
 
   -- heading with month number, then "refused N" lines if any, then per firm its violations and totals
@@ -60,5 +86,5 @@ scheduleLines S rs (good l) = monthLines S l rs
 -- at most 65,536 bytes (else it prints "too long")
 unfoldable pub report : (I : List ℕ) → List ℕ
 report I =
-    cond (ltb 65536 (length I)) tooLong
+    cond (ltb inputLimit (length I)) tooLong
     (let S = scheduleOf I in scheduleLines S (activityOf I) (checkBook S bookSize))

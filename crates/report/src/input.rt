@@ -1,4 +1,5 @@
 // Where the schedule ends in the program's input.
+use book::ACTIVITY_KIND;
 use wire::first_len;
 use wire::u16_at;
 ghost use mathlib.Core.Path.{_≡_};
@@ -9,7 +10,7 @@ ghost use Rattle.report.specs.Input.{isActivity, scheduleOf};
 fn is_activity(record: &[u8]) -> bool
     ensures { λ r. ⌜ r ≡ isActivity (now («record» .entry)) ⌝ }
 {
-    (4 <= record.len()) & (u16_at(record, 2) == 4)
+    (4 <= record.len()) & (u16_at(record, 2) == ACTIVITY_KIND)
 }
 
 // The offset of the first activity record, or the input's length.

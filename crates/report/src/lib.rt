@@ -1,27 +1,41 @@
 // A month's report: every firm's statement as text, from a schedule and activity in one input.
 mod firms;
 mod input;
-mod lines;
 mod posts;
-mod text;
 
+use book::PER_FIRM_GROUP;
 use book::check_book;
 use book::open;
 use firms::put_firms;
-use lines::put_heading;
-use lines::put_refused_at;
 use posts::put_posts;
 use schedule::Checked;
 use schedule::Layout;
+use text::Place;
 use text::put;
+use text::put_heading;
+use text::put_refused_at;
 ghost use mathlib.Core.Path.{_≡_};
 ghost use Rattle.wire.specs.Cut.{cut};
-ghost use Rattle.report.specs.Text.{Wrote};
+ghost use Rattle.text.specs.Text.{Wrote};
 ghost use Rattle.report.specs.Report.{bookSize, zeros, monthLines, report};
+ghost use Rattle.report.specs.Answer.{ReportIs};
 pub use input::schedule_end;
 
-// The numbers of a book for 88 firm-groups.
-const BOOK: usize = 88 * 93;
+// The most bytes of an input that is taken, and the bytes of an output that has room for every report.
+pub const INPUT: usize = 65_536;
+
+pub const OUTPUT: usize = 524_288;
+
+// The firm-groups of the book, and its numbers.
+const FIRM_GROUPS: usize = 88;
+
+const BOOK: usize = FIRM_GROUPS * PER_FIRM_GROUP;
+
+// How many bytes of the output were written: the whole text, or as much of it as there was room for.
+pub enum Reported {
+    Whole(usize),
+    Cut(usize),
+}
 
 fn blank_book() -> [u64; BOOK]
     ensures { λ r. ⌜ r ≡ zeros bookSize ⌝ }
@@ -30,27 +44,39 @@ fn blank_book() -> [u64; BOOK]
 }
 
 // Writes the report of a month whose schedule and book are good: heading, refused records, each firm's violations and totals.
-fn put_month(out: &mut [u8], schedule: &[u8], l: Layout, run: &[u8]) -> usize
-    ensures { λ r. ⌜ Wrote (now (out .entry)) 0 (monthLines (now (schedule .entry)) l (cut (now (run .entry)))) r (now (out .exit)) ⌝ }
+fn put_month(out: &mut [u8], place: Place, schedule: &[u8], l: Layout, run: &[u8]) -> Place
+    ensures { λ r. ⌜ Wrote (now (out .entry)) place (monthLines (now (schedule .entry)) l (cut (now (run .entry)))) r (now (out .exit)) ⌝ }
 {
     let mut book = blank_book();
     // Its answer says nothing new: `check_book` took this schedule and a book of this size.
     open(schedule, &mut book);
-    let a = put_heading(out, 0, l.month);
-    let b = put_posts(out, a, schedule, &mut book, run);
-    put_firms(out, b, schedule, l, &book)
+    let after_heading = put_heading(out, place, l.month);
+    let after_posts = put_posts(out, after_heading, schedule, &mut book, run);
+    put_firms(out, after_posts, schedule, l, &book)
 }
 
-// Writes what an input comes to over the front of the output, as much of it as there is room for, and answers how many bytes it wrote.
-pub fn report(input: &[u8], out: &mut [u8]) -> usize
-    ensures { λ r. ⌜ Wrote (now (out .entry)) 0 (report (now (input .entry))) r (now (out .exit)) ⌝ }
+// Writes what an input comes to.
+fn put_report(out: &mut [u8], place: Place, input: &[u8]) -> Place
+    ensures { λ r. ⌜ Wrote (now (out .entry)) place (report (now (input .entry))) r (now (out .exit)) ⌝ }
 {
-    if 65_536 < input.len() {
-        return put(out, 0, b"too long\n");
+    if INPUT < input.len() {
+        return put(out, place, b"too long\n");
     }
     let end = schedule_end(input);
     match check_book(&input[..end], BOOK) {
-        Checked::Refused { number, offset } => put_refused_at(out, 0, number, offset),
-        Checked::Good(l) => put_month(out, &input[..end], l, &input[end..]),
+        Checked::Refused { number, offset } => put_refused_at(out, place, number, offset),
+        Checked::Good(l) => put_month(out, place, &input[..end], l, &input[end..]),
     }
+}
+
+// Writes what an input comes to over the front of the output, as much of it as there is room for.
+pub fn report(input: &[u8], out: &mut [u8]) -> Reported
+    ensures { λ r. ⌜ ReportIs (now (input .entry)) (now (out .entry)) r (now (out .exit)) ⌝ }
+{
+    let front = Place { at: 0, whole: true };
+    let end = put_report(out, front, input);
+    if end.whole {
+        return Reported::Whole(end.at);
+    }
+    Reported::Cut(end.at)
 }

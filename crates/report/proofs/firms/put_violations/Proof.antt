@@ -6,49 +6,48 @@ use native.Mathlib.Omega.{arith}
 use lib.ListN.{drop}
 use borrow.Author.Needs.{needs}
 use Rattle.wire.specs.Lists.{joined}
-use Rattle.report.specs.Text.{Wrote}
-use Rattle.report.specs.Lines.{violationLine}
 use Rattle.wire.proofs.Lists.{part-lent}
-use Rattle.report.proofs.Writing.{wrote-length, wrote-first, wrote-more}
+use Rattle.statement.specs.Layout.{lineSize}
+use Rattle.text.specs.Text.{Wrote}
+use Rattle.text.specs.Lines.{violationLine}
+use Rattle.text.proofs.Writing.{wrote-length, wrote-first, wrote-more}
 use Rattle.report.proofs.firms.put_violations.Statement.{statement}
 use Rattle.report.proofs.firms.put_violations.Tie as tie
 
 abbrev Inv-loop : tie.InvT-loop
-Inv-loop out₀ at code records n next₀ i₀ out next i = Wrote out₀ at (joined i (λ i. violationLine code (drop (12 * i) records))) next out × i ≤ n
+Inv-loop out₀ code records n next₀ i₀ out next i = Wrote out₀ next₀ (joined i (λ i. violationLine code (drop (lineSize * i) records))) next out × i ≤ n
 
 abbrev μ-loop : tie.MeasureT-loop
-μ-loop out₀ at code records n next₀ i₀ out next i = n - i
+μ-loop out₀ code records n next₀ i₀ out next i = n - i
 
 loop-holds : tie.Need-loop-holds Inv-loop μ-loop
-loop-holds c = (wrote-first _ _ _ (c .before .before .before .pre .0), omega arith)
+loop-holds c = (wrote-first _ _ _, omega arith)
 
 sub-put-violation : tie.Need-sub-put-violation Inv-loop μ-loop
-sub-put-violation c = omega (arith, c .before .before .before .before .before .before .pre .1, c .before .loop-test .taken)
-
-put-violation-requires : tie.Need-put-violation-requires Inv-loop μ-loop
-put-violation-requires c κs = c .before .before .before .loop .inv .0 .within
+sub-put-violation c = omega (arith, c .before .before .before .before .before .before .pre, c .before .loop-test .taken)
 
 loop-less : tie.Need-loop-less Inv-loop μ-loop
 loop-less c = omega (arith, c .before .before .before .before .before .loop-test .taken)
 
 loop-again : tie.Need-loop-again Inv-loop μ-loop
 loop-again c =
-    let s3 = c .before .before in
-    let s2 = s3 .before .before .before in
-    let s1 = s2 .before in
-    let start = s1 .before .before .before .before in
-    let a = start .args in
-    let line = part-lent (12 * s1 .loop .i) (a .records .now) in (
-      wrote-more (λ i. violationLine (a .code .now) (drop (12 * i) (a .records .now))) _ (s1 .loop .inv .0) (rw (← line) (s3 .put-violation .ensures)),
-      omega (arith, s2 .loop-test .taken),
+    let wrote = c .before .before in
+    let turn = wrote .before .before .before in
+    let loop = turn .before .loop in
+    let a = turn .before .before .before .before .before .args in
+    let line = part-lent (lineSize * loop .i) (a .records .now) in (
+      wrote-more (λ i. violationLine (a .code .now) (drop (lineSize * i) (a .records .now))) _ (loop .inv .0) (rw (← line) (wrote .put-violation .ensures)),
+      omega (arith, turn .loop-test .taken),
     )
 
 same-length : tie.Need-same-length Inv-loop μ-loop
 same-length c = wrote-length (c .before .loop .inv .0)
 
 returns : tie.Need-returns Inv-loop μ-loop
-returns c = let done : c .before .loop .i ≡ c .before .before .before .before .before .args .n = omega (arith, c .before .loop .inv .1, c .loop-test .left) in
-    rw (← done) (c .before .loop .inv .0)
+returns c =
+    let loop = c .before .loop in
+    let done : loop .i ≡ c .before .before .before .before .before .args .n = omega (arith, loop .inv .1, c .loop-test .left) in
+    rw (← done) (loop .inv .0)
 
 pub put-violations-spec : {M : Type 1} → statement M
 put-violations-spec =
@@ -61,7 +60,7 @@ put-violations-spec =
     sub-put-violation
     (λ c. search needs)
     (λ c. search needs)
-    put-violation-requires
+    (λ c κs. search needs)
     (λ c. search needs)
     loop-less
     loop-again

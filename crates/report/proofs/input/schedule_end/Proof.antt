@@ -38,7 +38,7 @@ measured c = cut-at _ _ _ (c .before .before .loop-test .taken) (c .first-len .e
 
 -- that record is the one tested
 test-first : (c : tie.After-is-activity Inv-loop μ-loop)
-    → c .is-activity .result ≡ isActivity (take (firstLength (left (c .before .before .before .before))) (left (c .before .before .before .before)))
+    → (let S = left (c .before .before .before .before) in c .is-activity .result ≡ isActivity (take (firstLength S) S))
 test-first c = rw (add-sub-cancel-left, measured (c .before .before) .first) at (c .is-activity .ensures)
 
 loop-holds : tie.Need-loop-holds Inv-loop μ-loop
@@ -58,20 +58,23 @@ loop-less c = omega (arith, measured (c .before .before .before))
 
 loop-again : tie.Need-loop-again Inv-loop μ-loop
 loop-again c =
+    let m = measured (c .before .before .before) in
     let turn = c .before .before .before .before .before in
     let more = schedule-longer (left turn) (left-some turn) (sym (test-first (c .before)) ∙ c .if1 .left) in
-    (rw (← drop-drop, measured (c .before .before .before) .first) (omega (arith, more, turn .before .loop .inv .0)), measured (c .before .before .before) .most)
+    (rw (← drop-drop, m .first) (omega (arith, more, turn .before .loop .inv .0)), m .most)
 
 returns : tie.Need-returns Inv-loop μ-loop
 returns c =
     let I = now (c .before .before .before .args .input) in
     let at = c .before .loop .at in
-    omega (arith, c .loop-test .left, c .before .loop .inv, ap length (schedule-none (drop at I) (omega (arith, c .loop-test .left, length-drop at I))))
+    let none = schedule-none (drop at I) (omega (arith, c .loop-test .left, length-drop at I)) in
+    omega (arith, c .loop-test .left, c .before .loop .inv, ap length none)
 
 returns-2 : tie.Need-returns-2 Inv-loop μ-loop
 returns-2 c =
     let turn = c .before .before .before .before .before in
-    omega (arith, ap length (schedule-stops (left turn) (left-some turn) (sym (test-first (c .before)) ∙ c .if1 .taken)), turn .before .loop .inv .0)
+    let none = schedule-stops (left turn) (left-some turn) (sym (test-first (c .before)) ∙ c .if1 .taken) in
+    omega (arith, ap length none, turn .before .loop .inv .0)
 
 pub schedule-end-spec : {M : Type 1} → statement M
 schedule-end-spec =

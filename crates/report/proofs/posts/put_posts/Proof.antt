@@ -8,24 +8,32 @@ use denote.Ref.{now}
 use borrow.Author.Needs.{needs}
 use Rattle.wire.specs.Cut.{firstLength}
 use Rattle.wire.proofs.Cut.{CutAt, cut-at}
+use Rattle.text.proofs.Writing.{wrote-length}
 use Rattle.report.proofs.Posting.{Posting, posting-none, posting-next, posting-all}
-use Rattle.report.proofs.Writing.{wrote-length}
 use Rattle.report.proofs.posts.put_posts.Statement.{statement}
 use Rattle.report.proofs.posts.put_posts.Tie as tie
 
 abbrev Inv-loop : tie.InvT-loop
-Inv-loop out₀ at schedule book₀ run next₀ from₀ out book next from = Posting schedule book₀ run out₀ at out book next from
+Inv-loop out₀ schedule book₀ run next₀ from₀ out book next from = Posting schedule book₀ run out₀ next₀ out book next from
 
 abbrev μ-loop : tie.MeasureT-loop
-μ-loop out₀ at schedule book₀ run next₀ from₀ out book next from = length run - from
+μ-loop out₀ schedule book₀ run next₀ from₀ out book next from = length run - from
+
+-- where a turn of the loop starts from
+abbrev start : tie.In-loop Inv-loop μ-loop → tie.Start Inv-loop μ-loop
+start c = c .before .before .before .before .before .before
+
+-- where a turn that is over had measured its record
+abbrev measuring : tie.After-slice-known4 Inv-loop μ-loop → tie.After-first-len Inv-loop μ-loop
+measuring c = let posted = c .before .before .before .before in posted .before .before .before .before
 
 -- the record that was measured
 measured : (c : tie.After-first-len Inv-loop μ-loop)
-    → CutAt (now (c .before .before .before .before .before .before .before .before .args .run)) (c .before .before .before .loop .from) (c .first-len .result)
+    → CutAt (now (start (c .before .before) .args .run)) (c .before .before .before .loop .from) (c .first-len .result)
 measured c = cut-at _ _ _ (c .before .before .loop-test .taken) (c .first-len .ensures)
 
 loop-holds : tie.Need-loop-holds Inv-loop μ-loop
-loop-holds c = posting-none _ _ _ _ _ (c .before .before .before .before .pre)
+loop-holds c = posting-none _ _ _ _ _
 
 sub-first-len : tie.Need-sub-first-len Inv-loop μ-loop
 sub-first-len c = c .before .loop .inv .inside
@@ -36,30 +44,25 @@ add-put-post c = omega (arith, measured (c .before .before) .most)
 part-put-post-end : tie.Need-part-put-post-end Inv-loop μ-loop
 part-put-post-end c = omega (arith, measured (c .before .before) .most)
 
-put-post-requires : tie.Need-put-post-requires Inv-loop μ-loop
-put-post-requires c κs = c .before .before .before .before .before .before .loop .inv .wrote .within
-
 add-from : tie.Need-add-from Inv-loop μ-loop
-add-from c = omega (arith, measured (c .before .before .before .before .before .before .before .before) .most)
+add-from c = omega (arith, measured (measuring c) .most)
 
 loop-less : tie.Need-loop-less Inv-loop μ-loop
-loop-less c = let m = measured (c .before .before .before .before .before .before .before .before) in
+loop-less c =
+    let m = measured (measuring c) in
     omega (arith, m .some, m .most)
 
 loop-again : tie.Need-loop-again Inv-loop μ-loop
 loop-again c =
-    let s4 = c .before .before .before .before in
-    let s3 = s4 .before .before .before .before in
-    let s2 = s3 .before .before in
-    let s1 = s2 .before in
-    let start = s1 .before .before .before .before .before in
-    let post = s4 .put-post in
-    let test = s2 .loop-test in
-    let turn = s1 .loop in
-    let m = measured s3 in
-    let record-is : turn .from + s3 .first-len .result - turn .from ≡ firstLength (drop (turn .from) (now (start .args .run))) = omega (arith, m .first) in
-    rw (m .first)
-    (posting-next _ _ _ _ _ (turn .inv) (test .taken) (rw record-is at (post .ensures .0)) (rw record-is at (post .ensures .1)) (post .kept .1 .1 .1 .0))
+    let post = c .before .before .before .before .put-post in
+    let first = measuring c in
+    let turn = first .before .before in
+    let from = turn .before .loop .from in
+    let m = measured first in
+    let record-is : from + first .first-len .result - from ≡ firstLength (drop from (now (start turn .args .run))) = omega (arith, m .first) in
+    let line = rw record-is at (post .ensures .0) in
+    let book = rw record-is at (post .ensures .1) in
+    rw (m .first) (posting-next _ _ _ _ _ (turn .before .loop .inv) (turn .loop-test .taken) line book (post .kept .1 .1 .1 .0))
 
 same-length : tie.Need-same-length Inv-loop μ-loop
 same-length c = wrote-length (c .before .loop .inv .wrote)
@@ -85,7 +88,7 @@ put-posts-spec =
     (λ c. search needs)
     (λ c. search needs)
     part-put-post-end
-    put-post-requires
+    (λ c κs. search needs)
     add-from
     loop-less
     loop-again
