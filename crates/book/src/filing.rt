@@ -100,7 +100,14 @@ fn file_listed(schedule: &[u8], l: Layout, record: &[u8]) -> Filed
             byte_at(record, GROUP_SECOND),
         ) {
             FoundGroup::Nothing => Filed::Refused(15),
-            FoundGroup::At { index, offset } => file_found(schedule, l, record, firm, index, offset),
+            FoundGroup::At { index, offset } => file_found(
+                schedule,
+                l,
+                record,
+                firm,
+                index,
+                offset,
+            ),
         },
     }
 }

@@ -10,15 +10,16 @@ use crate::answers::say;
 use crate::digest::digest_of;
 use crate::script::State;
 use crate::script::bytes_of;
-use crate::script::clamp;
 use crate::script::past;
 use crate::script::piece_at;
 use crate::script::u64_at;
+use book::fill;
 use book::open;
 use book::post;
 use rules::mep_verdict;
 use statement::Stated;
 use statement::statement;
+use wire::least;
 use wire::u32_at;
 ghost use mathlib.Core.Path.{_≡_};
 ghost use Prim.Native.Nat.{_≤_};
@@ -45,17 +46,8 @@ pub(crate) fn run_schedule(script: &[u8], mut state: State) -> State
     state
 }
 
-// Sets the first n numbers to 7, so that what a call leaves alone can be seen.
-fn fill(book: &mut [u64], n: usize)
-    requires { ⌜ n ≤ length (now book) ⌝ }
-    ensures { λ _. ⌜ now (book .exit) ≡ over (table n (λ i. 7)) (now (book .entry)) ⌝ }
-{
-    let mut i: usize = 0;
-    while i < n {
-        book[i] = 7;
-        i += 1;
-    }
-}
+// What a number of the book holds before any call, so that what a call leaves alone can be seen.
+const UNTOUCHED: u64 = 7;
 
 // B: a new book of so many numbers.
 pub(crate) fn run_book(script: &[u8], mut state: State, book: &mut [u64]) -> State
@@ -65,7 +57,7 @@ pub(crate) fn run_book(script: &[u8], mut state: State, book: &mut [u64]) -> Sta
     if book.len() < numbers {
         return stop(state, b"book too large\n");
     }
-    fill(book, numbers);
+    fill(book, numbers, UNTOUCHED);
     state.numbers = numbers;
     state.at = past(script, state.at, 4);
     state
@@ -75,7 +67,7 @@ pub(crate) fn run_book(script: &[u8], mut state: State, book: &mut [u64]) -> Sta
 fn held(book: &[u64], numbers: usize) -> usize
     ensures { λ r. ⌜ Counts r (now (book .entry)) ⌝ }
 {
-    clamp(numbers, book.len())
+    least(numbers, book.len())
 }
 
 // W: one number of the book.

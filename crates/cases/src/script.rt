@@ -1,4 +1,5 @@
 // Where a script stands, and the operands of its commands. Past the script's end stand zeros.
+use wire::least;
 use wire::u32_at;
 ghost use mathlib.Core.Path.{_≡_};
 ghost use Prim.Native.Nat.{_+_, _-_, _≤_, min, max};
@@ -19,13 +20,6 @@ pub(crate) struct State {
     pub ended: bool,
 }
 
-// The lesser of a number and the most that is allowed.
-pub(crate) fn clamp(n: usize, most: usize) -> usize
-    ensures { λ r. ⌜ r ≡ min n most ⌝ }
-{
-    if n < most { n } else { most }
-}
-
 // The place n bytes on, and no further than the script's end; a place past the end stays.
 pub(crate) fn past(script: &[u8], at: usize, n: usize) -> usize
     ensures { λ r. ⌜ r ≡ max at (min (at + n) (length (now (script .entry)))) ⌝ }
@@ -33,7 +27,7 @@ pub(crate) fn past(script: &[u8], at: usize, n: usize) -> usize
     if script.len() <= at {
         return at;
     }
-    at + clamp(n, script.len() - at)
+    at + least(n, script.len() - at)
 }
 
 // The number of eight bytes at a place.
@@ -62,7 +56,7 @@ pub(crate) fn piece_at(script: &[u8], at: usize) -> Piece
 pub(crate) fn bytes_of(script: &[u8], piece: Piece) -> &[u8]
     ensures { λ r. ⌜ now r ≡ take (piece .end - piece .start) (drop (piece .start) (now (script .entry))) ⌝ }
 {
-    let end = clamp(piece.end, script.len());
-    let start = clamp(piece.start, end);
+    let end = least(piece.end, script.len());
+    let start = least(piece.start, end);
     &script[start..end]
 }

@@ -59,8 +59,8 @@ module _ (S B C : List ℕ) (l : Layout) where
 unfoldable pub monthAnswer : (S B C : List ℕ) → Outcome Layout
 monthAnswer S B C =
     follow (checkBook S (length B)) (λ l.
-      let n = choose (monthCauses S B C l) 0 in
-      cond (eqb n 0) (good l) (refused n 0))
+    let n = choose (monthCauses S B C l) 0 in
+    cond (eqb n 0) (good l) (refused n 0))
 
 -- where the first 32 groups stand; past the last group the places mean nothing
 abbrev pub startsOf : (S : List ℕ) → Layout → List ℕ

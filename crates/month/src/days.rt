@@ -1,8 +1,8 @@
 // A firm's days in the book: refusal 22, the codes of its places, the month's sums and exemptions.
+use crate::groups::group_of;
 use book::totals_in;
 use calendar::days_in;
 use calendar::in_effect;
-use crate::groups::group_of;
 use rules::Totals;
 use rules::Verdict;
 use rules::days_verdict;

@@ -31,7 +31,7 @@ module _ (xs : List ℕ) (a b s e : ℕ) (last : e ≡ min b (length xs)) (first
 returns : tie.Need-returns
 returns c =
     let a = c .before .before .before .before .args in
-    cut (now (a .script)) (a .piece .start) (a .piece .end) _ _ (c .before .before .clamp .ensures) (c .before .clamp2 .ensures)
+    cut (now (a .script)) (a .piece .start) (a .piece .end) _ _ (c .before .before .least .ensures) (c .before .least2 .ensures)
 
 pub bytes-of-spec : {M : Type 1} → statement M
 bytes-of-spec =

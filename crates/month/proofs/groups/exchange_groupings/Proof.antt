@@ -27,8 +27,8 @@ loop-again c =
     let a = l .before .before .args in (
       search needs,
       rw (l .loop .inv .1)
-      (table-write (λ i. groupAt (a .schedule .now) (a .l) i .grouping) (l .loop .g) (c .group-of .result .grouping) (replicate 32 0) (omega arith)
-      (ap (λ (x : Group). x .grouping) (c .group-of .ensures))),
+          (table-write (λ i. groupAt (a .schedule .now) (a .l) i .grouping) (l .loop .g) (c .group-of .result .grouping) (replicate 32 0) (omega arith)
+          (ap (λ (x : Group). x .grouping) (c .group-of .ensures))),
     )
 
 returns : tie.Need-returns Inv-loop μ-loop
