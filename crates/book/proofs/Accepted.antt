@@ -1,7 +1,7 @@
 -- Accepted totals are a fold, so each law of them is one of a single record: one that adds to a firm's cell is the firm's own, leaves the
 -- cell within the limit, and has its cell in the book.
 -- Assumes nothing.
-use Prim.Native.Nat.{ℕ, _+_}
+use Prim.Native.Nat.{ℕ}
 use mathlib.Core.Bool.{Bool, true, false, cond, _&&_, false≢true}
 use mathlib.Core.List.{List, foldl}
 use mathlib.Core.Path.{_≡_, refl, sym, _∙_, fun-ext}
@@ -15,11 +15,11 @@ use Rattle.wire.proofs.Bools.{and-left, and-right, never}
 use Rattle.wire.proofs.Folds.{fold-kept, keep-fold}
 use Rattle.wire.proofs.Choose.{passed, each, every}
 use Rattle.rules.specs.Verdict.{fits}
-use Rattle.schedule.specs.Lookup.{firmStart, firmIs, found, firmFound}
+use Rattle.lookup.specs.Lookup.{firmStart, firmIs, found, firmFound}
 use Rattle.schedule.specs.Outcome.{good}
 use Rattle.schedule.specs.Check.{checkOf}
-use Rattle.schedule.specs.declared.lookup.Layout.{Layout}
-use Rattle.schedule.proofs.Laws.{firm-found}
+use Rattle.lookup.specs.declared.Layout.{Layout}
+use Rattle.lookup.proofs.Laws.{firm-found}
 use Rattle.book.specs.Activity.{firmCode, day, totalsOf}
 use Rattle.book.specs.Book.{empty, grown}
 use Rattle.book.specs.Post.{firmPlaceOf, groupPlaceOf, isAdded}

@@ -13,8 +13,8 @@ use Rattle.wire.proofs.Bools.{and-left, and-right, range}
 use Rattle.wire.proofs.Choose.{next, done, chosen, Passed, passed, passed-first, sought}
 use Rattle.rules.specs.Verdict.{fits}
 use Rattle.calendar.specs.Calendar.{daysIn}
-use Rattle.schedule.specs.Lookup.{groupListed, firmIs, firmListed}
-use Rattle.schedule.specs.declared.lookup.Layout.{Layout}
+use Rattle.lookup.specs.Lookup.{groupListed, firmIs, firmListed}
+use Rattle.lookup.specs.declared.Layout.{Layout}
 use Rattle.calendar.proofs.Laws.{days-most}
 use Rattle.book.specs.Activity.{firmCode, day, totalsOf}
 use Rattle.book.specs.Book.{width, size, grown}

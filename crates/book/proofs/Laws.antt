@@ -17,7 +17,7 @@ use Rattle.wire.proofs.Lists.{length-over, length-put, drop-put, length-table, 
 use Rattle.rules.specs.Month.{Cells}
 use Rattle.schedule.specs.Outcome.{Outcome, refused, good, follow, given}
 use Rattle.schedule.specs.Check.{checkOf}
-use Rattle.schedule.specs.declared.lookup.Layout.{Layout}
+use Rattle.lookup.specs.declared.Layout.{Layout}
 use Rattle.schedule.proofs.Good.{refused-good}
 use Rattle.book.specs.Activity.{day, totalsOf}
 use Rattle.book.specs.Book.{width, size, index, cellAt, numbersOf, withCell, empty, grown, cells, checkBook, openAnswer, openBook}

@@ -11,7 +11,7 @@ use lib.Dec.{ltb}
 use lib.ListN.{length, getD}
 use borrow.Author.Tests.{ltb-true, ltb-false}
 use Rattle.wire.proofs.Lists.{put-in, put-front, put-past}
-use Rattle.schedule.specs.declared.lookup.Layout.{Layout}
+use Rattle.lookup.specs.declared.Layout.{Layout}
 use Rattle.book.specs.Book.{width, size, index, cellAt, numbersOf, withCell}
 use Rattle.book.specs.declared.cells.Cell.{Cell}
 

@@ -11,7 +11,7 @@ use Rattle.wire.specs.Lists.{keep}
 use Rattle.rules.specs.Month.{Cells}
 use Rattle.schedule.specs.Outcome.{given}
 use Rattle.schedule.specs.Check.{checkOf}
-use Rattle.schedule.specs.declared.lookup.Layout.{Layout}
+use Rattle.lookup.specs.declared.Layout.{Layout}
 use Rattle.book.specs.Activity.{firmCode, day, totalsOf}
 use Rattle.book.specs.Book.{empty, grown}
 use Rattle.book.specs.Post.{formCauses, firmPlaceOf, groupPlaceOf, isAdded, postBook}

@@ -13,7 +13,7 @@ use Rattle.rules.specs.Month.{Cells}
 use Rattle.rules.specs.declared.Totals.{Totals}
 use Rattle.schedule.specs.Outcome.{Outcome, refused, good, follow, given}
 use Rattle.schedule.specs.Check.{checkOf}
-use Rattle.schedule.specs.declared.lookup.Layout.{Layout}
+use Rattle.lookup.specs.declared.Layout.{Layout}
 use Rattle.book.specs.declared.cells.Cell.{Cell}
 use Rattle.book.specs.declared.opening.Opened.{Opened}
 use Rattle.book.specs.declared.opening.Opened.the-variants as opened

@@ -9,9 +9,10 @@ use Rattle.wire.specs.Choose.{choose, all, seekIn}
 use Rattle.wire.specs.Lists.{joined, table, over}
 use Rattle.wire.specs.Sums.{sum}
 use Rattle.calendar.specs.Calendar.{daysIn}
-use Rattle.records.specs.Counted.{contractListed, contractCounted, inFront, isAfter, isCounted, contractIs}
-use Rattle.records.specs.Fields.{headFields, headOk, groupFields, groupInRange, contractsOk, contractBad, before, contract, listed, isLetter, firmFields, firmOk, hasCode}
-use Rattle.schedule.specs.Lookup.{groupStart, groupIs, firmIs, groupListed, firmListed}
+use Rattle.contracts.specs.Counted.{contractListed, contractCounted, inFront, isAfter, isCounted, contractIs}
+use Rattle.records.specs.Fields.{headFields, headOk, groupFields, groupInRange, isLetter, firmFields, firmOk, hasCode}
+use Rattle.contracts.specs.Listing.{contractsOk, contractBad, before, contract, listed}
+use Rattle.lookup.specs.Lookup.{groupStart, groupIs, firmIs, groupListed, firmListed}
 use Rattle.schedule.specs.Outcome.{Outcome, refused, good}
 use Rattle.schedule.specs.Check.{checkOf, scan, ending, grown, cause, isRepeated, fieldsOk, isFull, lengthOk, isDue, kindOf}
 use Rattle.book.specs.Activity.{totalsOf}

@@ -7,9 +7,9 @@ use mathlib.Core.Path.{_≡_}
 use Rattle.wire.specs.Choose.{choose}
 use Rattle.rules.specs.Verdict.{fits}
 use Rattle.rules.specs.declared.Totals.{Totals}
-use Rattle.schedule.specs.Lookup.{groupStart}
+use Rattle.lookup.specs.Lookup.{groupStart}
 use Rattle.schedule.specs.Outcome.{refused, good}
-use Rattle.schedule.specs.declared.lookup.Layout.{Layout}
+use Rattle.lookup.specs.declared.Layout.{Layout}
 use Rattle.book.specs.Book.{cellAt, withCell, grown}
 use Rattle.book.specs.Post.{firmPlaceOf, groupPlaceOf, indexOf, isCountedRecord, counted, postMeaning}
 use Rattle.book.specs.declared.filing.Filed.{Filed}

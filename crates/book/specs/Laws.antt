@@ -6,9 +6,9 @@ use mathlib.Core.List.{List}
 use mathlib.Core.Path.{_≡_}
 use lib.ListN.{length, drop}
 use Rattle.rules.specs.Verdict.{fits}
-use Rattle.schedule.specs.Lookup.{found, firmFound}
+use Rattle.lookup.specs.Lookup.{found, firmFound}
 use Rattle.schedule.specs.Outcome.{good}
-use Rattle.schedule.specs.declared.lookup.Layout.{Layout}
+use Rattle.lookup.specs.declared.Layout.{Layout}
 use Rattle.book.specs.Book.{size, cells, totalsIn, openAnswer, openBook}
 use Rattle.book.specs.Post.{counted, postAnswer, postBook}
 use Rattle.book.specs.Accepted.{acceptedCells, accepted, own, posted}

@@ -11,10 +11,10 @@ use Rattle.wire.specs.Choose.{choose, within}
 use Rattle.rules.specs.Verdict.{fits}
 use Rattle.calendar.specs.Calendar.{daysIn, inEffect}
 use Rattle.records.specs.Bodies.{lengthAt, kindAt, bodyAt}
-use Rattle.schedule.specs.Lookup.{groupStart, groupPlace, groupListed, firmPlace, firmListed}
-use Rattle.records.specs.Counted.{contractListed, contractCounted}
+use Rattle.lookup.specs.Lookup.{groupStart, groupPlace, groupListed, firmPlace, firmListed}
+use Rattle.contracts.specs.Counted.{contractListed, contractCounted}
 use Rattle.schedule.specs.Outcome.{Outcome, refused, good, follow, given}
-use Rattle.schedule.specs.declared.lookup.Layout.{Layout}
+use Rattle.lookup.specs.declared.Layout.{Layout}
 use Rattle.book.specs.Activity.{activityKind, activityLength, firmCode, day, groupFirst, groupSecond, contractOf, totalsOf}
 use Rattle.book.specs.Book.{index, cellAt, withCell, grown, checkBook}
 use Rattle.book.specs.declared.cells.Cell.{Cell}

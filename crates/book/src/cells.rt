@@ -1,7 +1,7 @@
 // What a cell holds, where the cells stand in the book, and how many numbers it needs.
+use lookup::Layout;
 use rules::Totals;
 use schedule::Checked;
-use schedule::Layout;
 use schedule::check;
 ghost use mathlib.Core.Path.{_≡_};
 ghost use Prim.Native.Nat.{_+_, _^_, _≤_, _<_};

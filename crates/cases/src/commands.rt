@@ -25,7 +25,6 @@ ghost use mathlib.Core.Path.{_≡_};
 ghost use Prim.Native.Nat.{_≤_};
 ghost use lib.ListN.{length};
 ghost use Rattle.io.specs.Counts.{Counts};
-ghost use Rattle.wire.specs.Lists.{table, over};
 
 // Says why a command cannot be run. No other one follows it.
 pub(crate) fn stop(mut state: State, text: &[u8]) -> State

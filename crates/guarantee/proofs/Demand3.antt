@@ -26,9 +26,9 @@ use Rattle.rules.specs.Marks.{places, dayOf, groupOf, Judged, isBilled, mark, v
 use Rattle.rules.specs.Laws.{Laws}
 use Rattle.rules.proofs.Laws.{falling96, laws as rulesLaws}
 use Rattle.schedule.specs.Outcome.{Outcome, refused, good, follow}
-use Rattle.schedule.specs.Lookup.{groupAt, firmPlace, firmListed, found, firmFound}
+use Rattle.lookup.specs.Lookup.{groupAt, firmPlace, firmListed, found, firmFound}
 use Rattle.schedule.specs.Check.{checkOf}
-use Rattle.schedule.specs.declared.lookup.Layout.{Layout}
+use Rattle.lookup.specs.declared.Layout.{Layout}
 use Rattle.schedule.proofs.Good.{refused-good}
 use Rattle.book.specs.Book.{size, checkBook, openAnswer, openBook}
 use Rattle.book.specs.Accepted.{accepted, own, posted}

@@ -12,10 +12,10 @@ use Rattle.rules.specs.Lighter.{LighterMonth}
 use Rattle.rules.specs.declared.Rules.{Rules}
 use Rattle.records.specs.Bodies.{lengthAt, kindAt}
 use Rattle.schedule.specs.Outcome.{Outcome, refused, good, given}
-use Rattle.schedule.specs.Lookup.{firmListed, firmPlace}
+use Rattle.lookup.specs.Lookup.{firmListed, firmPlace}
 use Rattle.schedule.specs.Check.{nothing, checkOf}
-use Rattle.schedule.specs.InForce.{rulesOf}
-use Rattle.schedule.specs.declared.lookup.Layout.{Layout}
+use Rattle.lookup.specs.InForce.{rulesOf}
+use Rattle.lookup.specs.declared.Layout.{Layout}
 use Rattle.book.specs.Book.{openAnswer, openBook}
 use Rattle.book.specs.Accepted.{accepted, own, posted}
 use Rattle.month.specs.Month.{terms, monthOf}

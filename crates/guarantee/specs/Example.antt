@@ -13,10 +13,11 @@ use Rattle.wire.specs.Sums.{sum, count}
 use Rattle.calendar.specs.Calendar.{daysIn}
 use Rattle.rules.specs.Verdict.{code}
 use Rattle.rules.specs.declared.Totals.{Totals}
-use Rattle.records.specs.Fields.{headFields, headOk, groupFields, groupInRange, contractsOk, contractBad, before, contract, listed, isLetter, firmFields, firmOk, hasCode}
-use Rattle.records.specs.Counted.{contractListed, contractCounted, inFront, isAfter, isCounted, contractIs}
+use Rattle.records.specs.Fields.{headFields, headOk, groupFields, groupInRange, isLetter, firmFields, firmOk, hasCode}
+use Rattle.contracts.specs.Listing.{contractsOk, contractBad, before, contract, listed}
+use Rattle.contracts.specs.Counted.{contractListed, contractCounted, inFront, isAfter, isCounted, contractIs}
 use Rattle.schedule.specs.Outcome.{Outcome, good}
-use Rattle.schedule.specs.Lookup.{groupStart, groupIs, firmIs, groupListed, firmListed}
+use Rattle.lookup.specs.Lookup.{groupStart, groupIs, firmIs, groupListed, firmListed}
 use Rattle.schedule.specs.Check.{checkOf, scan, ending, grown, cause, isRepeated, fieldsOk, isFull, lengthOk, isDue, kindOf}
 use Rattle.book.specs.Activity.{totalsOf}
 use Rattle.book.specs.Book.{perFirmGroup, checkBook, openBook}

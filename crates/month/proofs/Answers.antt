@@ -9,8 +9,8 @@ use lib.ListN.{length}
 use Rattle.wire.specs.Choose.{choose}
 use Rattle.wire.proofs.Choose.{here, next, done, chosen}
 use Rattle.schedule.specs.Outcome.{Outcome, refused, good, follow}
-use Rattle.schedule.specs.Lookup.{firmListed}
-use Rattle.schedule.specs.declared.lookup.Layout.{Layout}
+use Rattle.lookup.specs.Lookup.{firmListed}
+use Rattle.lookup.specs.declared.Layout.{Layout}
 use Rattle.schedule.proofs.Good.{refused-good}
 use Rattle.book.specs.Book.{totalsIn, checkBook}
 use Rattle.month.specs.Month.{anyExcess, monthCauses, monthAnswer}

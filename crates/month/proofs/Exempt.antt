@@ -20,12 +20,12 @@ use Rattle.rules.specs.Marks.{places, dayOf, groupOf, codeAt}
 use Rattle.rules.specs.declared.Totals.{Totals}
 use Rattle.rules.proofs.Codes.{code-most, Fitting, fitting, exempt-code, verdict-code}
 use Rattle.calendar.specs.Calendar.{daysIn, inEffect}
-use Rattle.schedule.specs.Lookup.{groupAt}
-use Rattle.schedule.specs.declared.lookup.Layout.{Layout}
+use Rattle.lookup.specs.Lookup.{groupAt}
+use Rattle.lookup.specs.declared.Layout.{Layout}
 use Rattle.schedule.proofs.Found.{group-listed}
 use Rattle.calendar.proofs.Laws.{days-most}
-use Rattle.schedule.specs.InForce.{rulesOf}
-use Rattle.book.specs.Book.{none, totalsIn}
+use Rattle.lookup.specs.InForce.{rulesOf}
+use Rattle.book.specs.Book.{totalsIn}
 use Rattle.month.specs.Month.{terms, isExcess, anyExcess}
 use Rattle.month.specs.Parts.{Sound, Within, withDay, sumsTo, codeIn}
 use Rattle.month.specs.declared.days.MonthSums.{MonthSums}

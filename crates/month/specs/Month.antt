@@ -13,10 +13,10 @@ use Rattle.rules.specs.Verdict.{fits}
 use Rattle.rules.specs.Month.{Terms, Cells, exempt}
 use Rattle.rules.specs.Marks.{places, dayOf, groupOf, Judged, judged, mark}
 use Rattle.schedule.specs.Outcome.{Outcome, refused, good, follow, given}
-use Rattle.schedule.specs.Lookup.{groupStart, groupAt, firmListed, firmPlace}
+use Rattle.lookup.specs.Lookup.{groupStart, groupAt, firmListed, firmPlace}
 use Rattle.schedule.specs.Check.{meaning}
-use Rattle.schedule.specs.InForce.{rulesOf}
-use Rattle.schedule.specs.declared.lookup.Layout.{Layout}
+use Rattle.lookup.specs.InForce.{rulesOf}
+use Rattle.lookup.specs.declared.Layout.{Layout}
 use Rattle.book.specs.Book.{totalsIn, checkBook}
 use Rattle.month.specs.declared.Month.{Month}
 

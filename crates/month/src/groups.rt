@@ -1,11 +1,11 @@
 // The groups of the schedule by their places.
+use lookup::Layout;
+use lookup::group_at;
 use records::Group;
-use schedule::Layout;
-use schedule::group_at;
 use wire::u16_at;
 ghost use mathlib.Core.Path.{_≡_};
 ghost use Prim.Native.Nat.{_<_};
-ghost use Rattle.schedule.specs.Lookup.{groupAt};
+ghost use Rattle.lookup.specs.Lookup.{groupAt};
 ghost use Rattle.month.specs.Month.{startsOf, groupingsOf};
 
 // Where the groups stand in the schedule. Past the last group the places mean nothing, and no code goes by them.

@@ -1,13 +1,13 @@
 -- The fields of heads, groups and firms, with their ranges (document 01, "Records").
 -- B is a record's body, which starts after length and kind: offsets in it are document 01's less 4.
 -- Assumes nothing.
-use Prim.Native.Nat.{ℕ, zero, suc, _+_, _-_, _*_, _/_, _^_}
-use mathlib.Core.Bool.{Bool, not, _&&_, _||_}
+use Prim.Native.Nat.{ℕ, _/_, _^_}
+use mathlib.Core.Bool.{Bool, _||_}
 use mathlib.Core.List.{List, [], _∷_}
-use lib.Dec.{eqb, leb}
+use lib.Dec.{eqb}
 use lib.ListN.{length, getD}
 use Rattle.wire.specs.Bytes.{u16At, u32At}
-use Rattle.wire.specs.Choose.{all, some, within}
+use Rattle.wire.specs.Choose.{all, within}
 use Rattle.calendar.specs.Calendar.{isMonth, daysIn}
 use Rattle.rules.specs.Verdict.{isBenchmark}
 use Rattle.records.specs.declared.fields.Head.{Head}
@@ -35,31 +35,6 @@ groupFields B =
       extra = u16At B 10;
     }
 
--- Records, kind 2: then n listed contracts u16, from 16 on
-abbrev pub contractsAt : ℕ
-contractsAt = 12
-
--- n
-unfoldable pub listed : (B : List ℕ) → ℕ
-listed B = (length B - contractsAt) / 2
-
--- the month number of listed contract i
-unfoldable pub contract : (B : List ℕ) → (i : ℕ) → ℕ
-contract B i = u16At B (contractsAt + 2 * i)
-
--- that of the contract before it, 0 before the first
-unfoldable pub before : (B : List ℕ) → (i : ℕ) → ℕ
-before B zero = 0
-before B (suc i) = contract B i
-
--- contract i is no month number, or not above the one before it
-unfoldable pub contractBad : (B : List ℕ) → (i : ℕ) → Bool
-contractBad B i = not (isMonth (contract B i)) || leb (contract B i) (before B i)
-
--- Records, kind 2: the contracts are month numbers, strictly rising
-unfoldable pub contractsOk : (B : List ℕ) → Bool
-contractsOk B = not (some (listed B) (contractBad B))
-
 -- Records: a letter of a code is one of A–Z, 0–9
 unfoldable pub isLetter : ℕ → Bool
 isLetter x = within 65 90 x || within 48 57 x
@@ -77,10 +52,6 @@ groupInRange g =
     ∷ within 1 4095 (g .front)
     ∷ within 0 4095 (g .extra)
     ∷ [])
-
--- Records, kind 2: all of a group's fields
-abbrev pub groupOk : (B : List ℕ) → Bool
-groupOk B = groupInRange (groupFields B) && contractsOk B
 
 -- Records, kind 3: code at 4
 unfoldable pub firmFields : (B : List ℕ) → Firm

@@ -7,9 +7,8 @@ use wire::u16_at;
 use wire::u32_at;
 use wire::within;
 ghost use mathlib.Core.Path.{_≡_};
-ghost use Prim.Native.Nat.{_<_};
 ghost use Rattle.records.specs.Fields.{isLetter, headFields, headOk, firmFields, firmOk, hasCode};
-ghost use Rattle.records.specs.Fields.{listed, contract, contractsOk, groupFields, groupInRange, groupOk};
+ghost use Rattle.records.specs.Fields.{groupFields, groupInRange};
 
 // A head's fields: the month's number, and the days that are not in effect.
 pub struct Head {
@@ -75,48 +74,8 @@ pub fn group_fields(body: &[u8]) -> Group
     }
 }
 
-// Where the listed contracts start in a group's body.
-const CONTRACTS: usize = 12;
-
-// How many contracts a group's body lists.
-pub(crate) fn listed_in(body: &[u8]) -> usize
-    ensures { λ r. ⌜ r ≡ listed (now (body .entry)) ⌝ }
-{
-    if body.len() < CONTRACTS {
-        return 0;
-    }
-    (body.len() - CONTRACTS) / 2
-}
-
-// The month number of listed contract i.
-pub(crate) fn contract_at(body: &[u8], i: usize) -> u16
-    requires { ⌜ i < listed (now body) ⌝ }
-    ensures { λ r. ⌜ r ≡ contract (now (body .entry)) i ⌝ }
-{
-    u16_at(body, CONTRACTS + 2 * i)
-}
-
-fn contracts_ok(body: &[u8]) -> bool
-    ensures { λ r. ⌜ r ≡ contractsOk (now (body .entry)) ⌝ }
-{
-    let n = listed_in(body);
-    let mut i: usize = 0;
-    let mut last: u16 = 0;
-    while i < n {
-        let m = contract_at(body, i);
-        if !is_month(m) {
-            return false;
-        }
-        if m <= last {
-            return false;
-        }
-        last = m;
-        i += 1;
-    }
-    true
-}
-
-fn group_in_range(g: Group) -> bool
+// A group's fields are in their ranges.
+pub fn group_in_range(g: Group) -> bool
     ensures { λ r. ⌜ r ≡ groupInRange g ⌝ }
 {
     is_letter(g.first)
@@ -126,13 +85,6 @@ fn group_in_range(g: Group) -> bool
         & is_benchmark(g.benchmark as u64)
         & within(1, 4095, g.front as u32)
         & within(0, 4095, g.extra as u32)
-}
-
-// A group's fields are in their ranges, and its contracts are month numbers that rise.
-pub fn group_ok(body: &[u8]) -> bool
-    ensures { λ r. ⌜ r ≡ groupOk (now (body .entry)) ⌝ }
-{
-    group_in_range(group_fields(body)) & contracts_ok(body)
 }
 
 // A firm's fields as they stand in its body.

@@ -24,8 +24,8 @@ use Rattle.rules.specs.Month.{Cells}
 use Rattle.rules.specs.Marks.{places, dayOf, groupOf}
 use Rattle.schedule.specs.Outcome.{Outcome, refused, good, follow, given}
 use Rattle.schedule.specs.Check.{checkOf}
-use Rattle.schedule.specs.Lookup.{groupAt}
-use Rattle.schedule.specs.declared.lookup.Layout.{Layout}
+use Rattle.lookup.specs.Lookup.{groupAt}
+use Rattle.lookup.specs.declared.Layout.{Layout}
 use Rattle.schedule.proofs.Good.{good-schedule}
 use Rattle.book.specs.Accepted.{posted}
 use Rattle.book.specs.Book.{cellAt, checkBook, openBook}

@@ -4,7 +4,7 @@ use Prim.Native.Nat.{ℕ, _≤_}
 use mathlib.Core.List.{List}
 use mathlib.Core.Path.{_≡_, sym, ap, _∙_}
 use lib.ListN.{length}
-use Rattle.schedule.specs.declared.lookup.Layout.{Layout}
+use Rattle.lookup.specs.declared.Layout.{Layout}
 use Rattle.statement.specs.Layout.{bothTotals, largest}
 use Rattle.statement.specs.Statement.{statedMeaning, statementAnswer, StatementIs}
 use Rattle.statement.specs.declared.Stated.{Stated}

@@ -18,8 +18,8 @@ use Rattle.rules.specs.Marks.{places, Judged, violations}
 use Rattle.records.specs.Bodies.{bodyAt}
 use Rattle.records.specs.Fields.{firmFields, hasCode}
 use Rattle.schedule.specs.Outcome.{refused, good}
-use Rattle.schedule.specs.Lookup.{firmStart, firmIs, firmListed}
-use Rattle.schedule.specs.declared.lookup.Layout.{Layout}
+use Rattle.lookup.specs.Lookup.{firmStart, firmIs, firmListed}
+use Rattle.lookup.specs.declared.Layout.{Layout}
 use Rattle.schedule.proofs.Good.{refused-good}
 use Rattle.book.specs.Book.{checkBook, openAnswer, openBook}
 use Rattle.book.specs.Accepted.{posted}

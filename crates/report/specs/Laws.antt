@@ -8,7 +8,7 @@ use Rattle.wire.specs.Lists.{joined}
 use Rattle.rules.specs.Verdict.{version96}
 use Rattle.rules.specs.Marks.{Judged, violations, marked, billed, amount}
 use Rattle.schedule.specs.Outcome.{good}
-use Rattle.schedule.specs.declared.lookup.Layout.{Layout}
+use Rattle.lookup.specs.declared.Layout.{Layout}
 use Rattle.book.specs.Accepted.{posted}
 use Rattle.book.specs.Book.{checkBook, openBook}
 use Rattle.statement.specs.Layout.{lineSize, bothTotals, largest}

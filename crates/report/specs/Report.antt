@@ -5,13 +5,13 @@ use Prim.Native.Nat.{ℕ, _+_, _-_, _*_, _/_}
 use mathlib.Core.Bool.{cond}
 use mathlib.Core.List.{List, [], _∷_, _++_}
 use lib.Dec.{ltb}
-use lib.ListN.{length, getD, drop, replicate}
+use lib.ListN.{length, drop, replicate}
 use Rattle.wire.specs.Lists.{joined}
-use Rattle.schedule.specs.Lookup.{firmStart}
+use Rattle.lookup.specs.Lookup.{firmStart}
 use Rattle.records.specs.Bodies.{bodyAt}
 use Rattle.records.specs.Fields.{firmFields, letters}
 use Rattle.schedule.specs.Outcome.{Outcome, refused, good}
-use Rattle.schedule.specs.declared.lookup.Layout.{Layout}
+use Rattle.lookup.specs.declared.Layout.{Layout}
 use Rattle.book.specs.Accepted.{posted}
 use Rattle.book.specs.Book.{perFirmGroup, checkBook, openBook}
 use Rattle.book.specs.Post.{Effect, postAnswer, postBook}

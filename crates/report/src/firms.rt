@@ -1,7 +1,7 @@
 // The firms' statements as text.
+use lookup::Layout;
+use lookup::firm_at;
 use records::FIRM;
-use schedule::Layout;
-use schedule::firm_at;
 use statement::BOTH_TOTALS;
 use statement::LARGEST;
 use statement::LINE;

@@ -10,11 +10,11 @@ use Rattle.rules.specs.Verdict.{isBenchmark}
 use Rattle.records.specs.Fields.{isLetter, groupInRange}
 use Rattle.records.specs.declared.fields.Group.{Group}
 use Rattle.schedule.specs.Outcome.{good}
-use Rattle.schedule.specs.Lookup.{groupIs, groupListed, firmIs, firmListed, found, unlisted, GroupPlace, groupAt, groupFoundAt, groupFound, firmFound}
+use Rattle.lookup.specs.Lookup.{groupIs, groupListed, firmIs, firmListed, found, unlisted, GroupPlace, groupAt, groupFoundAt, groupFound, firmFound}
 use Rattle.schedule.specs.Check.{checkOf}
 use Rattle.schedule.specs.Good.{Once, Only, Searched}
-use Rattle.schedule.specs.declared.lookup.Layout.{Layout}
-use Rattle.schedule.proofs.Laws.{FoundAt, firm-found, firm-unlisted, group-found, group-placed, group-unlisted}
+use Rattle.lookup.specs.declared.Layout.{Layout}
+use Rattle.lookup.proofs.Laws.{FoundAt, firm-found, firm-unlisted, group-found, group-placed, group-unlisted}
 use Rattle.schedule.proofs.Good.{good-schedule}
 
 -- what was found is the only one, where no code is repeated

@@ -1,30 +1,32 @@
 -- A good schedule holds what specs/Good.antt says: each accepted record keeps it, so it holds where the scan ends.
 -- Assumes nothing.
-use Prim.Native.Nat.{ℕ, zero, suc, _+_, _-_, _*_, _/_, _%_, _≤_, _<_}
-use mathlib.Core.Bool.{Bool, true, false, cond, not, _&&_, false≢true}
+use Prim.Native.Nat.{ℕ, zero, suc, _+_, _-_, _*_, _%_, _≤_, _<_}
+use mathlib.Core.Bool.{Bool, true, false, cond, not, false≢true}
 use mathlib.Core.List.{List, _++_}
-use mathlib.Core.Path.{_≡_, refl, sym, _∙_, ap}
+use mathlib.Core.Path.{_≡_, refl, sym, _∙_}
 use native.Mathlib.Omega.{arith}
 use lib.Dec.{eqb, leb}
 use lib.ListN.{length, getD, length-take, length-drop}
 use borrow.Author.Count.{below-more}
-use borrow.Author.Tests.{leb-false, leb-true, eqb-true, eqb-false, eq-eqb, not-true, ltb-false}
-use Rattle.wire.specs.Choose.{choose, within}
+use borrow.Author.Tests.{leb-false, leb-true, eqb-true, eqb-false, eq-eqb, not-true}
+use Rattle.wire.specs.Choose.{within}
 use Rattle.wire.proofs.Bools.{and-left, and-right, range, in-range}
 use Rattle.wire.proofs.Choose.{here, next, done, chosen, each, none-at, choose-most, every}
 use Rattle.records.specs.Bodies.{lengthAt, kindAt, bodyAt, headSize, leastGroup, largestGroup, firmSize}
-use Rattle.records.specs.Fields.{headFields, headOk, groupFields, groupInRange, groupOk, contractsOk, listed, firmFields, firmOk, hasCode}
+use Rattle.records.specs.Fields.{headFields, headOk, groupFields, groupInRange, firmFields, hasCode}
+use Rattle.contracts.specs.Listing.{contractsOk, listed}
 use Rattle.records.specs.declared.fields.Firm.{Firm}
 use Rattle.schedule.specs.Outcome.{refused, good}
-use Rattle.schedule.specs.Lookup.{groupStart, firmStart, groupIs, firmIs, groupListed, firmListed}
+use Rattle.lookup.specs.Lookup.{groupStart, firmStart, groupIs, firmIs, groupListed, firmListed}
 use Rattle.schedule.specs.Check.{kindHere, isDue, lengthOk, fieldsOk, isRepeated, headerCauses, bodyCauses, cause, grown, after, ending, scan, begin, checkOf}
 use Rattle.schedule.specs.Good.{Once, GroupStands, FirmStands, GoodSchedule, Numbered}
-use Rattle.schedule.specs.declared.lookup.Layout.{Layout}
+use Rattle.lookup.specs.declared.Layout.{Layout}
 use Rattle.schedule.specs.declared.scan.Cursor.{Cursor}
 use Rattle.schedule.specs.declared.scan.Kind.{Kind}
 use Rattle.schedule.specs.declared.scan.Kind.the-variants as kind
-use Rattle.schedule.proofs.Laws.{Numbered as HasNumber, kind-number, length-bounds, group-next, group-first}
-use Rattle.schedule.proofs.Turns.{Fine, Taken, taken, accepted, scan-end, scan-refused, scan-next}
+use Rattle.schedule.proofs.Numbers.{Numbered as HasNumber, kind-number}
+use Rattle.lookup.proofs.Laws.{group-next, group-first}
+use Rattle.schedule.proofs.Turns.{Fine, taken, accepted, scan-end, scan-refused, scan-next}
 
 pub refused-good : {A : Type 0} {n o : ℕ} {a : A} → refused n o ≡ good a → ⊥
 refused-good e = let z : _≡_ {A = ℕ} 0 1 = cc in omega arith

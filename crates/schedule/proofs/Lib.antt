@@ -1,4 +1,4 @@
-pub mod Laws
+pub mod Numbers
 pub mod Turns
 pub mod Good
 pub mod Found

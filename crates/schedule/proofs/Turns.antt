@@ -1,20 +1,20 @@
 -- Laws of `scan`: what one turn of the check's loop does, that the place stays in bounds, and that a refusal has a number.
 -- Assumes nothing.
 use Prim.Native.Nat.{ℕ, zero, suc, _+_, _-_, _*_, _≤_, _<_}
-use mathlib.Core.Bool.{true, false, not, false≢true}
+use mathlib.Core.Bool.{true, false, false≢true}
 use mathlib.Core.List.{List}
-use mathlib.Core.Path.{_≡_, refl, sym, _∙_}
+use mathlib.Core.Path.{_≡_, refl}
 use native.Mathlib.Omega.{arith}
 use lib.ListN.{length}
 use borrow.Author.Tests.{le-leb, lt-leb, eq-eqb, ne-eqb, eqb-true, eqb-false, ltb-false, not-false}
 use Rattle.wire.proofs.Choose.{here, next, done, chosen, passed}
-use Rattle.records.specs.Bodies.{lengthAt, kindAt, bodyAt, headSize, largestGroup, firmSize}
+use Rattle.records.specs.Bodies.{lengthAt, bodyAt, headSize, largestGroup, firmSize}
 use Rattle.schedule.specs.Outcome.{refused}
 use Rattle.schedule.specs.Check.{kindHere, isDue, lengthOk, isFull, fieldsOk, isRepeated, cause, grown, after, ending, scan}
 use Rattle.schedule.specs.declared.scan.Cursor.{Cursor}
 use Rattle.schedule.specs.declared.scan.Kind.{Kind}
 use Rattle.schedule.specs.declared.scan.Kind.the-variants as kind
-use Rattle.schedule.proofs.Laws.{length-bounds}
+use Rattle.schedule.proofs.Numbers.{length-bounds}
 
 -- a place within the schedule, with no more records before it than a schedule has
 pub record Fine (S : List ℕ) (p : Cursor) : Type 0 where

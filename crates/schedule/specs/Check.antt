@@ -8,10 +8,11 @@ use lib.Dec.{eqb, leb, ltb}
 use lib.ListN.{length}
 use Rattle.wire.specs.Choose.{choose, within}
 use Rattle.records.specs.Bodies.{lengthAt, kindAt, bodyAt, headSize, leastGroup, largestGroup, firmSize}
-use Rattle.records.specs.Fields.{headFields, headOk, groupFields, groupOk, firmFields, firmOk}
+use Rattle.records.specs.Fields.{headFields, headOk, groupFields, firmFields, firmOk}
+use Rattle.contracts.specs.Listing.{groupOk}
 use Rattle.schedule.specs.Outcome.{Outcome, refused, good}
-use Rattle.schedule.specs.Lookup.{groupListed, firmListed}
-use Rattle.schedule.specs.declared.lookup.Layout.{Layout}
+use Rattle.lookup.specs.Lookup.{groupListed, firmListed}
+use Rattle.lookup.specs.declared.Layout.{Layout}
 use Rattle.schedule.specs.declared.scan.Kind.{Kind}
 use Rattle.schedule.specs.declared.scan.Kind.the-variants as kind
 use Rattle.schedule.specs.declared.scan.Cursor.{Cursor}

@@ -7,11 +7,12 @@ use mathlib.Core.Path.{_≡_}
 use lib.ListN.{length}
 use Rattle.wire.specs.Choose.{within}
 use Rattle.records.specs.Bodies.{lengthAt, kindAt, bodyAt, headSize, firmSize}
-use Rattle.records.specs.Fields.{headFields, headOk, groupInRange, contractsOk, listed, firmFields, firmOk}
+use Rattle.records.specs.Fields.{headFields, headOk, groupInRange, firmFields, firmOk}
+use Rattle.contracts.specs.Listing.{contractsOk, listed}
 use Rattle.schedule.specs.Outcome.{refused}
-use Rattle.schedule.specs.Lookup.{groupStart, firmStart, groupAt, groupIs, firmIs, found, unlisted, GroupPlace, groupFoundAt, groupFound, firmFound}
+use Rattle.lookup.specs.Lookup.{groupStart, firmStart, groupAt, groupIs, firmIs, found, unlisted, GroupPlace, groupFoundAt, groupFound, firmFound}
 use Rattle.schedule.specs.Check.{checkOf}
-use Rattle.schedule.specs.declared.lookup.Layout.{Layout}
+use Rattle.lookup.specs.declared.Layout.{Layout}
 
 -- a test holds at one place below n at the most
 abbrev pub Once : (n : ℕ) → (ℕ → Bool) → Type 0

@@ -1,9 +1,10 @@
 // The check of a whole schedule, record by record.
-use crate::lookup::FoundFirm;
-use crate::lookup::FoundGroup;
-use crate::lookup::Layout;
-use crate::lookup::find_firm;
-use crate::lookup::find_group;
+use contracts::contracts_ok;
+use lookup::FoundFirm;
+use lookup::FoundGroup;
+use lookup::Layout;
+use lookup::find_firm;
+use lookup::find_group;
 use records::FIRM;
 use records::GROUP_LEAST;
 use records::GROUP_MOST;
@@ -12,7 +13,7 @@ use records::body_at;
 use records::firm_fields;
 use records::firm_ok;
 use records::group_fields;
-use records::group_ok;
+use records::group_in_range;
 use records::head_fields;
 use records::head_ok;
 use wire::u16_at;
@@ -20,7 +21,7 @@ ghost use mathlib.Core.Path.{_≡_};
 ghost use Prim.Native.Nat.{_+_, _^_, _≤_, _<_};
 ghost use lib.ListN.{length};
 ghost use Rattle.wire.specs.Choose.{choose};
-ghost use Rattle.schedule.specs.Lookup.{groupListed, firmListed};
+ghost use Rattle.lookup.specs.Lookup.{groupListed, firmListed};
 ghost use Rattle.schedule.specs.Check.{kindOf, isDue, lengthOk, isFull, fieldsOk, isRepeated};
 ghost use Rattle.schedule.specs.Check.{headerCauses, bodyCauses, cause, grown, after, meaning, checkOf};
 
@@ -96,7 +97,7 @@ fn fields_ok(kind: Kind, body: &[u8]) -> bool
 {
     match kind {
         Kind::Head => head_ok(head_fields(body)),
-        Kind::Group => group_ok(body),
+        Kind::Group => group_in_range(group_fields(body)) & contracts_ok(body),
         Kind::Firm => firm_ok(firm_fields(body)),
         Kind::Other => true,
     }

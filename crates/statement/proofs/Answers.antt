@@ -16,9 +16,9 @@ use Rattle.rules.specs.Marks.{places, groupOf, Judged, mark}
 use Rattle.records.specs.Bodies.{bodyAt}
 use Rattle.records.specs.Fields.{groupFields}
 use Rattle.schedule.specs.Outcome.{Outcome, refused, good}
-use Rattle.schedule.specs.Lookup.{groupStart, groupAt}
-use Rattle.schedule.specs.InForce.{rulesOf}
-use Rattle.schedule.specs.declared.lookup.Layout.{Layout}
+use Rattle.lookup.specs.Lookup.{groupStart, groupAt}
+use Rattle.lookup.specs.InForce.{rulesOf}
+use Rattle.lookup.specs.declared.Layout.{Layout}
 use Rattle.schedule.proofs.Good.{refused-good}
 use Rattle.month.specs.Month.{startsOf, groupingsOf, firmMonth, monthAnswer}
 use Rattle.statement.specs.Layout.{lineSize, bothTotals}

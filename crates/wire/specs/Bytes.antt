@@ -1,4 +1,4 @@
--- Numbers of two and four bytes, little-endian, and codes of three letters (document 01, "Records").
+-- Numbers of two and four bytes, little-endian (document 01, "Records").
 -- Assumes nothing.
 use Prim.Native.Nat.{ℕ, _+_, _*_, _/_, _%_}
 use mathlib.Core.List.{List, [], _∷_}

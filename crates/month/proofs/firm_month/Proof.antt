@@ -9,9 +9,9 @@ use denote.Ref.{now}
 use borrow.Author.Needs.{needs}
 use Rattle.schedule.specs.Outcome.{good}
 use Rattle.schedule.specs.Check.{meaning}
-use Rattle.schedule.specs.Lookup.{firmListed, firmMeaning}
+use Rattle.lookup.specs.Lookup.{firmListed, firmMeaning}
 use Rattle.schedule.proofs.Good.{good-schedule}
-use Rattle.schedule.proofs.Laws.{firm-found, firm-unlisted}
+use Rattle.lookup.proofs.Laws.{firm-found, firm-unlisted}
 use Rattle.book.specs.Book.{checkBook}
 use Rattle.book.proofs.Checked.{sized}
 use Rattle.month.proofs.Answers.{is-refused, is-21}

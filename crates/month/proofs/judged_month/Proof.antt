@@ -1,13 +1,11 @@
 -- The arrays are filled from the month's definitions, and the marks given to what they hold are the month's own.
 -- Assumes nothing.
-use Prim.Native.Nat.{ℕ}
-use mathlib.Core.Path.{_≡_, refl, sym, ap, _∙_}
+use mathlib.Core.Path.{ap, _∙_}
 use denote.Ref.{now}
 use borrow.Author.Needs.{needs}
 use Rattle.wire.specs.Lists.{table}
 use Rattle.rules.specs.Marks.{places, mark}
 use Rattle.rules.specs.declared.Rules.{Rules}
-use Rattle.schedule.specs.InForce.{rulesOf}
 use Rattle.book.specs.Book.{totalsIn}
 use Rattle.book.proofs.Checked.{sized}
 use Rattle.month.specs.Parts.{Sound, held}
@@ -49,7 +47,8 @@ returns c =
     let f = totalsIn (a .l .groups) (now (a .book)) (a .firm) in
     let good = is-judged (now (a .schedule)) (now (a .book)) (now (a .code)) (a .l) (a .firm) (s .pre .0) (s .pre .1) in
     let marks = c .give-marks .ensures
-    ∙ ap (λ (p : Rules). table places (mark p (held (x .before .before .fill-codes .result) (x .fill-exempts .result) (e .exchange-groupings .result)))) (c .before .before .before .rules-of .ensures)
+    ∙ ap (λ (p : Rules). table places (mark p (held (x .before .before .fill-codes .result) (x .fill-exempts .result) (e .exchange-groupings .result))))
+    (c .before .before .before .rules-of .ensures)
     ∙ held-marks (now (a .schedule)) (a .l) f _ _ _ (x .before .before .fill-codes .ensures) (x .fill-exempts .ensures) (e .exchange-groupings .ensures) in
     record {
       answer = rw good;

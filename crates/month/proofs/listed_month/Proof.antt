@@ -2,7 +2,6 @@
 -- Assumes nothing.
 use mathlib.Core.Path.{sym, _∙_}
 use borrow.Author.Needs.{needs}
-use Rattle.wire.proofs.Bools.{yes}
 use Rattle.month.proofs.Answers.{is-22}
 use Rattle.month.proofs.listed_month.Statement.{statement}
 use Rattle.month.proofs.listed_month.Tie as tie

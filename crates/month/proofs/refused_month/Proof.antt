@@ -1,6 +1,5 @@
 -- The answer is the refusal, and the arrays hold zeros.
 -- Assumes nothing.
-use borrow.Author.Needs.{needs}
 use Rattle.month.proofs.refused_month.Statement.{statement}
 use Rattle.month.proofs.refused_month.Tie as tie
 

@@ -12,10 +12,10 @@ use Rattle.wire.specs.Choose.{within}
 use Rattle.wire.proofs.Bools.{yes, no, range}
 use Rattle.wire.proofs.Choose.{here, next, done, chosen}
 use Rattle.calendar.specs.Calendar.{daysIn}
-use Rattle.records.specs.Counted.{statusMeaning, statusOf, contractListed, contractCounted}
-use Rattle.records.specs.declared.counted.Status.{Status}
-use Rattle.records.specs.declared.counted.Status.the-variants as kind
-use Rattle.records.proofs.Status.{saysListed, saysCounted, status-listed, status-counted}
+use Rattle.contracts.specs.Counted.{statusMeaning, statusOf, contractListed, contractCounted}
+use Rattle.contracts.specs.declared.counted.Status.{Status}
+use Rattle.contracts.specs.declared.counted.Status.the-variants as kind
+use Rattle.contracts.proofs.Status.{saysListed, saysCounted, status-listed, status-counted}
 use Rattle.book.specs.Activity.{day, contractOf}
 use Rattle.book.specs.Post.{groupBody}
 use Rattle.book.proofs.filing.file_found.Statement.{statement}

@@ -8,8 +8,8 @@ use denote.Ref.{now}
 use borrow.Author.Needs.{needs}
 use Rattle.wire.specs.Choose.{choose}
 use Rattle.wire.proofs.Choose.{here, next, chosen}
-use Rattle.schedule.specs.Lookup.{firmIs, firmListed, firmMeaning, groupListed, groupMeaning, groupFound}
-use Rattle.schedule.proofs.Laws.{FoundAt, firm-found, firm-unlisted, group-found, group-placed, group-unlisted}
+use Rattle.lookup.specs.Lookup.{firmIs, firmListed, firmMeaning, groupListed, groupMeaning, groupFound}
+use Rattle.lookup.proofs.Laws.{FoundAt, firm-found, firm-unlisted, group-found, group-placed, group-unlisted}
 use Rattle.book.specs.Post.{listCauses}
 use Rattle.book.specs.Activity.{firmCode, groupFirst, groupSecond}
 use Rattle.book.proofs.Answers.{filed-same}

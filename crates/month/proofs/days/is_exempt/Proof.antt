@@ -11,8 +11,8 @@ use Rattle.calendar.specs.Calendar.{inEffect}
 use Rattle.rules.specs.Month.{Cells, counted, days, sums, exempt}
 use Rattle.rules.specs.Verdict.{version96, fits, isViolation, isBenchmark, verdict, verdictMeaning}
 use Rattle.rules.proofs.Codes.{code-most}
-use Rattle.schedule.specs.InForce.{rulesOf}
-use Rattle.schedule.specs.Lookup.{groupAt}
+use Rattle.lookup.specs.InForce.{rulesOf}
+use Rattle.lookup.specs.Lookup.{groupAt}
 use Rattle.schedule.proofs.Found.{group-listed}
 use Rattle.book.specs.Book.{totalsIn}
 use Rattle.month.specs.Month.{terms}
@@ -49,7 +49,8 @@ module _ (c : tie.After-days-verdict) where
   unfolding sumsTo
   coded =
       ap codeIn (c .days-verdict .ensures)
-      ∙ ap₂ (λ (s : MonthSums) B. codeIn (verdict (s .days) (record { raw = s .raw; score = s .score; lots = s .lots }) B)) (c .before .month-sums .ensures) (ap (λ g. g .benchmark) (c .before .before .before .group-of .ensures))
+      ∙ ap₂ (λ (s : MonthSums) B. codeIn (verdict (s .days) (record { raw = s .raw; score = s .score; lots = s .lots }) B))
+      (c .before .month-sums .ensures) (ap (λ g. g .benchmark) (c .before .before .before .group-of .ensures))
 
   benchmark : let a = from .args in isBenchmark (groupAt (now (a .schedule)) (a .l) (a .g) .benchmark) ≡ true
   benchmark = let a = from .args in group-listed (now (a .schedule)) (from .pre .1 .1 .checked) (a .g) (test c .if1 .left) .benchmark

@@ -1,6 +1,6 @@
 -- Past the last group and on a day that is not in effect the code is 0; elsewhere the verdict on the cell has the place's code.
 -- Assumes nothing.
-use Prim.Native.Nat.{ℕ, _%_}
+use Prim.Native.Nat.{_%_}
 use mathlib.Core.Bool.{_&&_}
 use mathlib.Core.Path.{_≡_, ap, ap₂, _∙_}
 use lib.Dec.{ltb}
@@ -9,7 +9,7 @@ use borrow.Author.Needs.{needs}
 use Rattle.wire.proofs.Bools.{yes, no}
 use Rattle.rules.specs.Verdict.{verdict, verdictMeaning}
 use Rattle.rules.specs.Marks.{codeAt}
-use Rattle.schedule.specs.InForce.{rulesOf}
+use Rattle.lookup.specs.InForce.{rulesOf}
 use Rattle.book.specs.Book.{totalsIn}
 use Rattle.month.specs.Month.{terms}
 use Rattle.month.specs.Parts.{codeIn}

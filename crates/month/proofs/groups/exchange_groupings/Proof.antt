@@ -8,7 +8,7 @@ use borrow.Author.Needs.{needs}
 use Rattle.wire.specs.Lists.{table, over}
 use Rattle.wire.proofs.Lists.{joined-none, table-write, table-done}
 use Rattle.records.specs.declared.fields.Group.{Group}
-use Rattle.schedule.specs.Lookup.{groupAt}
+use Rattle.lookup.specs.Lookup.{groupAt}
 use Rattle.month.proofs.groups.exchange_groupings.Statement.{statement}
 use Rattle.month.proofs.groups.exchange_groupings.Tie as tie
 

@@ -4,7 +4,7 @@ use mathlib.Core.Path.{_≡_}
 use lib.ListN.{getD}
 use borrow.Author.Needs.{needs}
 use Rattle.wire.proofs.Lists.{table-at}
-use Rattle.schedule.specs.Lookup.{groupStart}
+use Rattle.lookup.specs.Lookup.{groupStart}
 use Rattle.month.proofs.groups.group_of.Statement.{statement}
 use Rattle.month.proofs.groups.group_of.Tie as tie
 

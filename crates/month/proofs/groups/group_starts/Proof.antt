@@ -7,13 +7,17 @@ use lib.ListN.{replicate}
 use borrow.Author.Needs.{needs}
 use Rattle.wire.specs.Lists.{table, over}
 use Rattle.wire.proofs.Lists.{joined-none, table-write, table-done}
-use Rattle.schedule.specs.Lookup.{groupStart}
-use Rattle.schedule.proofs.Laws.{group-next, group-first}
+use Rattle.lookup.specs.Lookup.{groupStart}
+use Rattle.lookup.proofs.Laws.{group-next, group-first}
 use Rattle.month.proofs.groups.group_starts.Statement.{statement}
 use Rattle.month.proofs.groups.group_starts.Tie as tie
 
 abbrev Inv-loop : tie.InvT-loop
-Inv-loop schedule starts₀ at₀ g₀ starts at g = (g ≤ 32) × (at ≤ at₀ + 65535 * g) × (at ≡ groupStart schedule at₀ g) × (starts ≡ over (table g (groupStart schedule at₀)) starts₀)
+Inv-loop schedule starts₀ at₀ g₀ starts at g =
+    (g ≤ 32)
+    × (at ≤ at₀ + 65535 * g)
+    × (at ≡ groupStart schedule at₀ g)
+    × (starts ≡ over (table g (groupStart schedule at₀)) starts₀)
 
 abbrev μ-loop : tie.MeasureT-loop
 μ-loop schedule starts₀ at₀ g₀ starts at g = 32 - g

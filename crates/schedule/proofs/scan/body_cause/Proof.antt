@@ -34,12 +34,12 @@ module _ (c : tie.After-is-full) where
 abbrev at-fields : tie.After-fields-ok → tie.After-is-full
 at-fields c = c .before .before .before
 
-good : (c : tie.After-fields-ok) (b : Bool) → not (c .fields-ok .result) ≡ b
-    → not (fieldsOk (kindHere (S (from (at-fields c))) (P (from (at-fields c)))) (bodyAt (S (from (at-fields c))) (P (from (at-fields c)) .at))) ≡ b
+good : (c : tie.After-fields-ok) (b : Bool) → not (c .fields-ok .result) ≡ b → let s = from (at-fields c) in
+    not (fieldsOk (kindHere (S s) (P s)) (bodyAt (S s) (P s .at))) ≡ b
 good c b e = rw (← told (at-fields c), ← c .before .body-at .ensures) (ap not (sym (c .fields-ok .ensures)) ∙ e)
 
-repeated : (c : tie.After-is-repeated) (b : Bool) → c .is-repeated .result ≡ b
-    → isRepeated (kindHere (S (from (at-fields (c .before .before)))) (P (from (at-fields (c .before .before))))) (S (from (at-fields (c .before .before)))) (P (from (at-fields (c .before .before))) .held) (bodyAt (S (from (at-fields (c .before .before)))) (P (from (at-fields (c .before .before))) .at)) ≡ b
+repeated : (c : tie.After-is-repeated) (b : Bool) → c .is-repeated .result ≡ b → let s = from (at-fields (c .before .before)) in
+    isRepeated (kindHere (S s) (P s)) (S s) (P s .held) (bodyAt (S s) (P s .at)) ≡ b
 repeated c b e = rw (← told (at-fields (c .before .before)), ← c .before .before .before .body-at .ensures) (sym (c .is-repeated .ensures) ∙ e)
 
 returns : tie.Need-returns

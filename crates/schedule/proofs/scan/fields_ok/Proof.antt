@@ -1,5 +1,7 @@
 -- Each kind has its row of the definition, with the fields that the body holds.
 -- Assumes nothing.
+use mathlib.Core.Bool.{_&&_}
+use mathlib.Core.Path.{ap₂}
 use borrow.Author.Needs.{needs}
 use Rattle.schedule.specs.Check.{fieldsOk}
 use Rattle.schedule.proofs.scan.fields_ok.Statement.{statement}
@@ -11,7 +13,7 @@ returns c = rw (c .before .before .enum-told .given .1, ← c .before .head-fiel
 
 returns-2 : tie.Need-returns-2
 unfolding fieldsOk
-returns-2 c = rw (c .before .enum-told2 .given .1) (c .group-ok .ensures)
+returns-2 c = rw (c .before .before .before .enum-told2 .given .1, ← c .before .before .group-fields .ensures) (ap₂ _&&_ (c .before .group-in-range .ensures) (c .contracts-ok .ensures))
 
 returns-3 : tie.Need-returns-3
 unfolding fieldsOk
@@ -29,6 +31,8 @@ fields-ok-spec =
     (λ c κs. search needs)
     (λ c κs. search needs)
     (λ c. search needs)
+    (λ c κs. search needs)
+    (λ c κs. search needs)
     (λ c κs. search needs)
     (λ c. search needs)
     (λ c κs. search needs)

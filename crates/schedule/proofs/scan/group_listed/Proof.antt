@@ -2,8 +2,8 @@
 -- Assumes nothing.
 use mathlib.Core.Path.{sym, _∙_, ap}
 use borrow.Author.Needs.{needs}
-use Rattle.schedule.specs.Lookup.{groupMeaning, groupFound}
-use Rattle.schedule.proofs.Laws.{found-listed, unlisted-listed}
+use Rattle.lookup.specs.Lookup.{groupMeaning, groupFound}
+use Rattle.lookup.proofs.Laws.{found-listed, unlisted-listed}
 use Rattle.schedule.proofs.scan.group_listed.Statement.{statement}
 use Rattle.schedule.proofs.scan.group_listed.Tie as tie
 

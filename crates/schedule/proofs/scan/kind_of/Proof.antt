@@ -2,7 +2,6 @@
 -- Assumes nothing.
 use mathlib.Core.Path.{sym}
 use borrow.Author.Tests.{eq-eqb, ne-eqb}
-use borrow.Author.Needs.{needs}
 use Rattle.wire.proofs.Choose.{chosen, here, next, done}
 use Rattle.schedule.specs.Check.{kindOf}
 use Rattle.schedule.proofs.scan.kind_of.Statement.{statement}

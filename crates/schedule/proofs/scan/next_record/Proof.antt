@@ -5,7 +5,9 @@ use Rattle.schedule.proofs.scan.next_record.Statement.{statement}
 use Rattle.schedule.proofs.scan.next_record.Tie as tie
 
 returns : tie.Need-returns
-returns c = rw (c .with-record .ensures, c .before .before .kind-of .ensures, c .before .before .before .u16-at2 .ensures, c .before .before .before .before .u16-at .ensures, c .before .body-at .ensures)
+returns c =
+    let k = c .before .before in
+    rw (c .with-record .ensures, k .kind-of .ensures, k .before .u16-at2 .ensures, k .before .before .u16-at .ensures, c .before .body-at .ensures)
 
 pub next-record-spec : {M : Type 1} → statement M
 next-record-spec =
