@@ -26,11 +26,11 @@ module _ (S : List ℕ) (numbers : ℕ) {l : Layout} where
   -- where the schedule is good, the check of the book is refusal 8 or good, by its room
   pub by-room : checkOf S ≡ good l → (P : Outcome Layout → Type 0) → P (refused 8 0) → (size l ≤ numbers → P (good l)) → P (checkBook S numbers)
   unfolding checkBook
-  by-room e P small roomy = rw e (go (ltb numbers (size l)) refl)
+  by-room e P small enough = rw e (go (ltb numbers (size l)) refl)
     where
       go : (b : Bool) → ltb numbers (size l) ≡ b → P (cond b (refused 8 0) (good l))
       go true t = small
-      go false t = roomy (ltb-false _ _ t)
+      go false t = enough (ltb-false _ _ t)
 
   pub book-good : checkOf S ≡ good l → size l ≤ numbers → checkBook S numbers ≡ good l
   unfolding checkBook

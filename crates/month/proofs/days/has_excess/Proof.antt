@@ -1,4 +1,4 @@
--- The walk has met no spoilt place before i, so the search from i has the same answer as from the first.
+-- The walk has met no number above the limit before place i, so the search from i has the same answer as from the first.
 -- Assumes nothing.
 use Prim.Native.Nat.{ℕ, _+_, _-_, _≤_, _<_}
 use mathlib.Core.Bool.{Bool, true, false}
