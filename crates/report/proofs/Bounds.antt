@@ -39,9 +39,9 @@ use Rattle.month.proofs.Answers.{judged-book}
 use Rattle.statement.specs.Statement.{statementBytes, need, outputUnder}
 use Rattle.statement.proofs.Shown.{bytes-length}
 use Rattle.report.specs.Input.{inputLimit, isActivity, recordsFrom, scheduleOf, activityOf}
-use Rattle.text.specs.Lines.{violationLine}
+use Rattle.text.specs.Lines.{tooLong, violationLine}
 use Rattle.text.proofs.Bounds.{refused-at-most, heading-most, refused-most, refused-two, violation-most, totals-most}
-use Rattle.report.specs.Report.{bookSize, zeros, tooLong, postLine, postLines, statementLines, firmLines, codeOf, statementOf}
+use Rattle.report.specs.Report.{bookSize, zeros, postLine, postLines, statementLines, firmLines, codeOf, statementOf}
 use Rattle.report.specs.Report.{monthLines, scheduleLines, report}
 use Rattle.report.specs.Answer.{outputSize}
 

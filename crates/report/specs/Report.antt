@@ -17,8 +17,7 @@ use Rattle.book.specs.Book.{perFirmGroup, checkBook, openBook}
 use Rattle.book.specs.Post.{Effect, postAnswer, postBook}
 use Rattle.statement.specs.Layout.{lineSize, totalsSize, bothTotals, largest}
 use Rattle.statement.specs.Statement.{statementAnswer, statementOutput}
-use Rattle.text.specs.Text.{text}
-use Rattle.text.specs.Lines.{refusedAt, heading, refusedLine, violationLine, totalsLine}
+use Rattle.text.specs.Lines.{tooLong, heading, refusedLine, refusedAt, violationLine, totalsLine}
 use Rattle.report.specs.Input.{inputLimit, scheduleOf, activityOf}
 
 -- Its book fits 88 firm-groups
@@ -32,10 +31,6 @@ bookSize = firmGroups * perFirmGroup
 -- a book or an output before its first use
 unfoldable pub zeros : ℕ → List ℕ
 zeros n = replicate n 0
-
--- more than 65,536 bytes
-abbrev pub tooLong : List ℕ
-tooLong = text "too long\n"
 
 -- a posted record has a line where it is refused
 abbrev pub postLine : Outcome Effect → List ℕ

@@ -8,8 +8,9 @@ use statement::LINE;
 use statement::Stated;
 use statement::TOTALS;
 use statement::statement;
+use text::Line;
 use text::Place;
-use text::put_refused;
+use text::put_line;
 use text::put_totals;
 use text::put_violation;
 ghost use mathlib.Core.Path.{_≡_};
@@ -77,7 +78,7 @@ fn put_firm(
     let code = code_of(schedule, l, f);
     let mut records = blank_statement();
     match statement(schedule, book, &code, &mut records) {
-        Stated::Refused { number, offset: _ } => put_refused(out, place, number),
+        Stated::Refused { number, offset: _ } => put_line(out, place, Line::Refused(number)),
         Stated::Written(bytes) => put_statement(out, place, &code, &records, bytes),
     }
 }

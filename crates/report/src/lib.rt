@@ -10,10 +10,9 @@ use firms::put_firms;
 use lookup::Layout;
 use posts::put_posts;
 use schedule::Checked;
+use text::Line;
 use text::Place;
-use text::put;
-use text::put_heading;
-use text::put_refused_at;
+use text::put_line;
 ghost use mathlib.Core.Path.{_≡_};
 ghost use Rattle.wire.specs.Cut.{cut};
 ghost use Rattle.text.specs.Text.{Wrote};
@@ -50,7 +49,7 @@ fn put_month(out: &mut [u8], place: Place, schedule: &[u8], l: Layout, run: &[u8
     let mut book = blank_book();
     // Its answer says nothing new: `check_book` took this schedule and a book of this size.
     open(schedule, &mut book);
-    let after_heading = put_heading(out, place, l.month);
+    let after_heading = put_line(out, place, Line::Heading(l.month));
     let after_posts = put_posts(out, after_heading, schedule, &mut book, run);
     put_firms(out, after_posts, schedule, l, &book)
 }
@@ -60,11 +59,15 @@ fn put_report(out: &mut [u8], place: Place, input: &[u8]) -> Place
     ensures { λ r. ⌜ Wrote (now (out .entry)) place (report (now (input .entry))) r (now (out .exit)) ⌝ }
 {
     if INPUT < input.len() {
-        return put(out, place, b"too long\n");
+        return put_line(out, place, Line::TooLong);
     }
     let end = schedule_end(input);
     match check_book(&input[..end], BOOK) {
-        Checked::Refused { number, offset } => put_refused_at(out, place, number, offset),
+        Checked::Refused { number, offset } => put_line(
+            out,
+            place,
+            Line::RefusedAt { number, offset },
+        ),
         Checked::Good(l) => put_month(out, place, &input[..end], l, &input[end..]),
     }
 }

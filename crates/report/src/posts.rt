@@ -1,8 +1,9 @@
 // The posts of a run of activity records.
 use book::Posted;
 use book::post;
+use text::Line;
 use text::Place;
-use text::put_refused;
+use text::put_line;
 use wire::first_len;
 ghost use mathlib.Core.Path.{_≡_};
 ghost use Rattle.wire.specs.Cut.{cut};
@@ -17,7 +18,7 @@ fn put_post(out: &mut [u8], place: Place, schedule: &[u8], book: &mut [u64], rec
     ensures { λ _. ⌜ now (book .exit) ≡ postBook (now (schedule .entry)) (now (book .entry)) (now («record» .entry)) ⌝ }
 {
     match post(schedule, book, record) {
-        Posted::Refused { number, offset: _ } => put_refused(out, place, number),
+        Posted::Refused { number, offset: _ } => put_line(out, place, Line::Refused(number)),
         Posted::Outside => place,
         Posted::Counted => place,
     }

@@ -8,10 +8,12 @@ use Rattle.wire.specs.Choose.{choose}
 use Rattle.statement.specs.Layout.{lineDay, lineFirst, lineSecond, lineMark, lineDollars}
 use Rattle.statement.specs.Layout.{totalsGrouping, totalsViolations, totalsMonthly, totalsAutomatic, totalsBilled, totalsDollars}
 use Rattle.text.specs.Text.{text, decimal, field}
+use Rattle.text.specs.declared.lines.Line.{Line}
+use Rattle.text.specs.declared.lines.Line.the-variants as line
 
--- a refused schedule or book
-unfoldable pub refusedAt : (number offset : ℕ) → List ℕ
-refusedAt number offset = text "refused " ++ decimal number ++ text " at " ++ decimal offset ++ text "\n"
+-- an input of more than 65,536 bytes
+abbrev pub tooLong : List ℕ
+tooLong = text "too long\n"
 
 -- heading with month number
 unfoldable pub heading : (month : ℕ) → List ℕ
@@ -20,6 +22,17 @@ heading month = text "MPS " ++ decimal month ++ text "\n"
 -- a refused record
 unfoldable pub refusedLine : (number : ℕ) → List ℕ
 refusedLine number = text "refused " ++ decimal number ++ text "\n"
+
+-- a refused schedule or book
+unfoldable pub refusedAt : (number offset : ℕ) → List ℕ
+refusedAt number offset = text "refused " ++ decimal number ++ text " at " ++ decimal offset ++ text "\n"
+
+-- the line that each of these is
+abbrev pub lineText : Line → List ℕ
+lineText line.TooLong = tooLong
+lineText (line.Heading month) = heading month
+lineText (line.Refused number) = refusedLine number
+lineText (line.RefusedAt number offset) = refusedAt number offset
 
 -- the words of the marks: 1 severe, 2 billed, 3 monthly, 4 automatic
 unfoldable pub markWord : (mark : ℕ) → List ℕ

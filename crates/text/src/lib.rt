@@ -5,9 +5,8 @@ mod lines;
 ghost use mathlib.Core.Path.{_≡_};
 ghost use Prim.Native.Nat.{_-_, min};
 ghost use Rattle.text.specs.Text.{decimal, field, Wrote};
-pub use lines::put_heading;
-pub use lines::put_refused;
-pub use lines::put_refused_at;
+pub use lines::Line;
+pub use lines::put_line;
 pub use lines::put_totals;
 pub use lines::put_violation;
 
@@ -32,7 +31,7 @@ fn room(size: usize, at: usize, wanted: usize) -> usize
 }
 
 // Writes a text, as much of it as there is room for.
-pub fn put(out: &mut [u8], place: Place, text: &[u8]) -> Place
+pub(crate) fn put(out: &mut [u8], place: Place, text: &[u8]) -> Place
     ensures { λ r. ⌜ Wrote (now (out .entry)) place (now (text .entry)) r (now (out .exit)) ⌝ }
 {
     let at = place.at;

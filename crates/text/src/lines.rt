@@ -17,7 +17,15 @@ use wire::byte_at;
 use wire::u16_at;
 use wire::u32_at;
 ghost use Rattle.text.specs.Text.{Wrote};
-ghost use Rattle.text.specs.Lines.{refusedAt, heading, refusedLine, markWord, charge, violationLine, counts, totalsLine};
+ghost use Rattle.text.specs.Lines.{heading, refusedLine, refusedAt, lineText, markWord, charge, violationLine, counts, totalsLine};
+
+// A line other than a violation or totals: an input that is too long, the month's heading, a refused record, a refused schedule or book.
+pub enum Line {
+    TooLong,
+    Heading(u16),
+    Refused(u8),
+    RefusedAt { number: u8, offset: usize },
+}
 
 const HEADING: [u8; 4] = *b"MPS ";
 
@@ -32,7 +40,7 @@ const MONTHLY: [u8; 7] = *b"monthly";
 const AUTOMATIC: [u8; 9] = *b"automatic";
 
 // Writes the line of a refused schedule or book.
-pub fn put_refused_at(out: &mut [u8], place: Place, number: u8, offset: usize) -> Place
+fn put_refused_at(out: &mut [u8], place: Place, number: u8, offset: usize) -> Place
     ensures { λ r. ⌜ Wrote (now (out .entry)) place (refusedAt number offset) r (now (out .exit)) ⌝ }
 {
     let after_refused = put(out, place, &REFUSED);
@@ -43,7 +51,7 @@ pub fn put_refused_at(out: &mut [u8], place: Place, number: u8, offset: usize) -
 }
 
 // Writes the heading.
-pub fn put_heading(out: &mut [u8], place: Place, month: u16) -> Place
+fn put_heading(out: &mut [u8], place: Place, month: u16) -> Place
     ensures { λ r. ⌜ Wrote (now (out .entry)) place (heading month) r (now (out .exit)) ⌝ }
 {
     let after_name = put(out, place, &HEADING);
@@ -52,12 +60,24 @@ pub fn put_heading(out: &mut [u8], place: Place, month: u16) -> Place
 }
 
 // Writes the line of a refused record.
-pub fn put_refused(out: &mut [u8], place: Place, number: u8) -> Place
+fn put_refused(out: &mut [u8], place: Place, number: u8) -> Place
     ensures { λ r. ⌜ Wrote (now (out .entry)) place (refusedLine number) r (now (out .exit)) ⌝ }
 {
     let after_refused = put(out, place, &REFUSED);
     let after_number = put_decimal(out, after_refused, number as u64);
     put(out, after_number, b"\n")
+}
+
+// Writes a line other than a violation or totals.
+pub fn put_line(out: &mut [u8], place: Place, line: Line) -> Place
+    ensures { λ r. ⌜ Wrote (now (out .entry)) place (lineText line) r (now (out .exit)) ⌝ }
+{
+    match line {
+        Line::TooLong => put(out, place, b"too long\n"),
+        Line::Heading(month) => put_heading(out, place, month),
+        Line::Refused(number) => put_refused(out, place, number),
+        Line::RefusedAt { number, offset } => put_refused_at(out, place, number, offset),
+    }
 }
 
 // Writes the word of a mark.

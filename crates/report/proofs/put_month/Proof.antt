@@ -18,7 +18,7 @@ returns c =
     let blank = opened .before .before in
     let schedule = blank .before .before .before .before .args .schedule .now in
     let book = opened .«open» .ensures .book ∙ ap (openBook schedule) (blank .blank-book .ensures) in
-    heading .put-heading .ensures
+    heading .put-line .ensures
     then (rw book at (posts .put-posts .ensures .0))
     then (rw (posts .put-posts .ensures .1, book) at (firms .put-firms .ensures))
 

@@ -19,7 +19,7 @@ use Rattle.report.proofs.put_report.Tie as tie
 
 returns : tie.Need-returns
 unfolding report
-returns c = rw (lt-ltb _ _ (c .before .before .before .before .before .if1 .taken)) (c .before .before .put .ensures)
+returns c = rw (lt-ltb _ _ (c .before .before .before .before .if1 .taken)) (c .before .before .put-line .ensures)
 
 -- once the schedule's end is known
 module _ (c : tie.After-schedule-end) where
@@ -67,7 +67,7 @@ returns-2 c =
     let checked = told .before .before in
     let cut = checked .before .before in
     let refused = rw (first cut) at (sym (checked .check-book .ensures) ∙ ap meaning (told .number .given .1)) in
-    rw (taken cut, refused) (line .put-refused-at .ensures)
+    rw (taken cut, refused) (line .put-line2 .ensures)
 
 returns-3 : tie.Need-returns-3
 unfolding report
@@ -83,7 +83,6 @@ pub put-report-spec : {M : Type 1} → statement M
 put-report-spec =
     tie.close
     (tie.spec
-    (λ c. search needs)
     (λ c. search needs)
     (λ c. search needs)
     returns

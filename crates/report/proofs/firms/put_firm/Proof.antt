@@ -54,7 +54,7 @@ returns : tie.Need-returns
 returns c =
     let line = c .before .before in
     let told = line .before .before .before in
-    rw (← refused (told .before .before .before) (told .number .given .1)) (line .put-refused .ensures)
+    rw (← refused (told .before .before .before) (told .number .given .1)) (line .put-line .ensures)
 
 returns-2 : tie.Need-returns-2
 returns-2 c =

@@ -13,7 +13,7 @@ returns c =
     let told = line .before .before .before in
     let posted = told .before .before .before .before in
     let e = sym (posted .post .ensures .answer) ∙ ap postMeaning (told .number .given .1) in
-    (rw e (line .put-refused .ensures), posted .post .ensures .book)
+    (rw e (line .put-line .ensures), posted .post .ensures .book)
 
 returns-2 : tie.Need-returns-2
 returns-2 c =
