@@ -1,6 +1,5 @@
 -- Accepted totals are a fold, so each law of them is one of a single record: one that adds to a firm's cell is the firm's own, leaves the
 -- cell within the limit, and has its cell in the book.
--- Assumes nothing.
 use Prim.Native.Nat.{ℕ}
 use mathlib.Core.Bool.{Bool, true, false, cond, _&&_, false≢true}
 use mathlib.Core.List.{List, foldl}

@@ -1,6 +1,5 @@
 -- What a record has passed that no cause refuses: each row of the table that did not refuse it is a fact, so its firm and its group are
 -- listed and its day is one of the month, and its cell stands inside the book.
--- Assumes nothing.
 use Prim.Native.Nat.{ℕ, _+_, _≤_, _<_}
 use mathlib.Core.Bool.{true}
 use mathlib.Core.List.{List}

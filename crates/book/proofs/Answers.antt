@@ -1,6 +1,5 @@
 -- From how the schedule takes a record, and what adding to its cell came to, to the post's answer and the book after it: the table of
 -- causes is one after another, so the first that refuses decides, and 18 is asked where none did.
--- Assumes nothing.
 use Prim.Native.Nat.{ℕ}
 use mathlib.Core.Bool.{Bool, true, false, cond, not, and-false}
 use mathlib.Core.List.{List}

@@ -1,6 +1,5 @@
 -- The check of schedule and book is 1 to 7 of the schedule, then 8 or good by the book's room: so a book that it takes has room for every
 -- cell of a good schedule.
--- Assumes nothing.
 use Prim.Native.Nat.{ℕ, _≤_}
 use mathlib.Core.Bool.{Bool, true, false, cond}
 use mathlib.Core.List.{List}

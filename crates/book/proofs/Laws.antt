@@ -1,6 +1,5 @@
 -- After any list of posts the book holds the cells that the list makes, and keeps its length and what lies past its cells: a post changes
 -- its own cell as `accept` does, and no other. With the laws of accepted totals this is specs/Laws.antt.
--- Assumes nothing.
 use Prim.Native.Nat.{ℕ, _+_, _-_, _*_, _≤_, _<_}
 use mathlib.Core.Bool.{Bool, true, false, cond, _&&_, false≢true}
 use mathlib.Core.List.{List}

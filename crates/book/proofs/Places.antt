@@ -1,6 +1,5 @@
 -- A cell that was written is read again, and no other cell changes, since cells stand each in its own place: a place is a number in base
 -- 31 and G, which has one firm, one group and one day. A listed firm's cells stand inside the book.
--- Assumes nothing.
 use Prim.Native.Nat.{ℕ, _+_, _-_, _*_, _/_, _≤_, _<_}
 use mathlib.Core.Bool.{Bool, true, false}
 use mathlib.Core.List.{List}

@@ -14,7 +14,7 @@ use Rattle.records.specs.Fields.{headFields, headOk, groupFields, groupInRange,
 use Rattle.contracts.specs.Listing.{contractsOk, contractBad, before, contract, listed}
 use Rattle.lookup.specs.Lookup.{groupStart, groupIs, firmIs, groupListed, firmListed}
 use Rattle.schedule.specs.Outcome.{Outcome, refused, good}
-use Rattle.schedule.specs.Check.{checkOf, scan, ending, grown, cause, isRepeated, fieldsOk, isFull, lengthOk, isDue, kindOf}
+use Rattle.schedule.specs.Check.{checkOf, scan, ending, withRecord, cause, isRepeated, fieldsOk, isFull, lengthOk, isDue, kindOf}
 use Rattle.book.specs.Activity.{totalsOf}
 use Rattle.book.specs.Book.{perFirmGroup, none, checkBook, openBook}
 use Rattle.book.specs.Post.{Effect, outside, counted, postCause, postAnswer, postBook}
@@ -50,7 +50,7 @@ pub record Example : Type 0 where
   pub holds : posted schedule book posts ≡ over (2222 ∷ 666620 ∷ 20000000 ∷ []) book
 
 pub example : Example
-unfolding acceptedCells posted postCause totalsOf checkBook checkOf scan ending grown cause isRepeated fieldsOk isFull lengthOk isDue kindOf
+unfolding acceptedCells posted postCause totalsOf checkBook checkOf scan ending withRecord cause isRepeated fieldsOk isFull lengthOk isDue kindOf
     firmListed groupListed firmIs groupIs groupStart firmOk firmFields hasCode groupInRange groupFields contractsOk contractBad before contract
     listed headOk headFields isLetter contractIs isCounted isAfter inFront contractCounted contractListed daysIn sum joined seekIn all choose u32At
     u16At

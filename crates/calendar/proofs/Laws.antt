@@ -1,5 +1,4 @@
 -- No month has more than 31 days.
--- Assumes nothing.
 use Prim.Native.Nat.{ℕ, zero, suc, _%_, _≤_, zero-le}
 use mathlib.Core.Bool.{Bool, true, _&&_}
 use mathlib.Core.List.{List, [], _∷_}

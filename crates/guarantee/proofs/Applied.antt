@@ -1,5 +1,4 @@
 -- Demand 3 applies to a pair of lists in a schedule of one group, where every one of 31 days is lighter and keeps its messages.
--- Assumes nothing.
 use Prim.Native.Nat.{ℕ, _+_, _-_, _<_}
 use mathlib.Core.Bool.{Bool, true, false, _||_}
 use mathlib.Core.List.{List}

@@ -1,7 +1,6 @@
 -- Demand 3. From an opened book a listed firm's cells are its accepted totals, which fit, so that only 23 can refuse its statement: the bytes
 -- are those of the month after the list. Their totals are read back as they were written, each number being small enough; the rules' laws add
 -- them up; and the firm's own posts alone make its accepted totals.
--- Assumes nothing.
 use Prim.Native.Nat.{ℕ, _+_, _*_, _≤_, _<_}
 use mathlib.Core.Bool.{Bool, true, false, not, _&&_, and-true, and-false}
 use mathlib.Core.List.{List, [], _++_, append-assoc}

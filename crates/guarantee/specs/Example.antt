@@ -18,7 +18,7 @@ use Rattle.contracts.specs.Listing.{contractsOk, contractBad, before, contract,
 use Rattle.contracts.specs.Counted.{contractListed, contractCounted, inFront, isAfter, isCounted, contractIs}
 use Rattle.schedule.specs.Outcome.{Outcome, good}
 use Rattle.lookup.specs.Lookup.{groupStart, groupIs, firmIs, groupListed, firmListed}
-use Rattle.schedule.specs.Check.{checkOf, scan, ending, grown, cause, isRepeated, fieldsOk, isFull, lengthOk, isDue, kindOf}
+use Rattle.schedule.specs.Check.{checkOf, scan, ending, withRecord, cause, isRepeated, fieldsOk, isFull, lengthOk, isDue, kindOf}
 use Rattle.book.specs.Activity.{totalsOf}
 use Rattle.book.specs.Book.{perFirmGroup, checkBook, openBook}
 use Rattle.book.specs.Post.{postCause}
@@ -135,7 +135,7 @@ abbrev pub Applies : Type 0
 Applies = Falls schedule ABC run eased
 
 pub example : Example
-unfolding acceptedCells posted postCause totalsOf checkBook checkOf scan ending grown cause isRepeated fieldsOk isFull lengthOk isDue kindOf
+unfolding acceptedCells posted postCause totalsOf checkBook checkOf scan ending withRecord cause isRepeated fieldsOk isFull lengthOk isDue kindOf
     firmListed groupListed firmIs groupIs groupStart firmOk firmFields hasCode groupInRange groupFields contractsOk contractBad before contract
     listed headOk headFields isLetter contractIs isCounted isAfter inFront contractCounted contractListed daysIn sum joined seekIn all choose u32At
     u16At code anyExcess monthAnswer lineAt tally shown

@@ -1,5 +1,4 @@
 -- What a month's call comes to: the first of 1 to 8, 21 and 22, or what the schedule holds.
--- Assumes nothing.
 use Prim.Native.Nat.{ℕ}
 use mathlib.Core.Bool.{Bool, true, false, cond, not}
 use lib.Dec.{eqb}

@@ -1,6 +1,5 @@
 -- Laws of a firm's month: where 22 does not refuse, no total of a day in effect is above the limit, so no sum over d counted days is above d
 -- times it; a month's verdict then has a code, which says whether the month is exempt.
--- Assumes nothing.
 use Prim.Native.Nat.{ℕ, _+_, _-_, _*_, _/_, _%_, _≤_, _<_, zero-le}
 use mathlib.Core.Bool.{Bool, true, false, cond, not, _&&_}
 use mathlib.Core.List.{List}

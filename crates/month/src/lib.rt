@@ -33,7 +33,7 @@ pub struct Month {
     pub marks: [u8; 992],
 }
 
-// The answer of a call that is refused.
+// The answer of a call that is refused. Schedule, book and code are arguments since the contract speaks of them.
 fn refused_month(number: u8, offset: usize, schedule: &[u8], book: &[u64], code: &[u8]) -> Month
     requires { ⌜ monthAnswer (now schedule) (now book) (now code) ≡ refused number offset ⌝ }
     ensures { λ r. ⌜ MonthIs (now (schedule .entry)) (now (book .entry)) (now (code .entry)) r ⌝ }
@@ -48,7 +48,7 @@ fn refused_month(number: u8, offset: usize, schedule: &[u8], book: &[u64], code:
     }
 }
 
-// The month of a firm whose numbers are within the limit.
+// The month of a firm whose numbers are within the limit. The code is an argument since the contract names the firm by it.
 fn judged_month(schedule: &[u8], l: Layout, book: &[u64], code: &[u8], firm: u8) -> Month
     requires { ⌜ ListedAt (now schedule) l (now book) (now code) firm ⌝ }
     requires { ⌜ anyExcess l (totalsIn (l .groups) (now book) firm) ≡ false ⌝ }

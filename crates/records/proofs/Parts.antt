@@ -1,5 +1,4 @@
 -- A record's body: its length as the code cuts it out, and where there is none or it is cut short.
--- Assumes nothing.
 use Prim.Native.Nat.{ℕ, _+_, _-_, _≤_, _<_}
 use mathlib.Core.List.{List, []}
 use mathlib.Core.Path.{_≡_, sym, _∙_}

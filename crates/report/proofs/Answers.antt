@@ -1,5 +1,4 @@
 -- What report answers once its text is written: the place after it says whether all of it had room. What was written stands within the output.
--- Assumes nothing.
 use Prim.Native.Nat.{ℕ, _≤_}
 use mathlib.Core.Bool.{Bool, true, false, cond}
 use mathlib.Core.List.{List}

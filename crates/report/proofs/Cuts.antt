@@ -1,5 +1,4 @@
 -- Where the input's schedule ends: a record at a time, and how the whole input is parted there.
--- Assumes nothing.
 use Prim.Native.Nat.{ℕ, zero, suc, _+_, _-_, _≤_, _<_}
 use mathlib.Core.Bool.{Bool, true, false}
 use mathlib.Core.List.{List, [], _++_}

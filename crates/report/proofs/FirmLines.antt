@@ -1,5 +1,4 @@
 -- What a firm's lines come to: those of its statement, or the number of a refusal.
--- Assumes nothing.
 use Prim.Native.Nat.{ℕ, _≤_}
 use mathlib.Core.List.{List}
 use mathlib.Core.Path.{_≡_, sym, ap, _∙_}

@@ -1,6 +1,5 @@
 -- What a report shows of a firm. Its statement is not refused: the book was opened, the firm is listed, and the output has room for a line on every
 -- place. So demand 3 says what its totals are.
--- Assumes nothing.
 use Prim.Native.Nat.{ℕ, _+_, _-_, _*_, _/_, _≤_, _<_}
 use mathlib.Core.Bool.{true}
 use mathlib.Core.List.{List, _++_}

@@ -1,5 +1,4 @@
 -- The laws of reports.
--- Assumes nothing.
 use Prim.Native.Nat.{ℕ, _≤_, zero-le}
 use mathlib.Core.List.{List}
 use mathlib.Core.Path.{_≡_, _∙_}

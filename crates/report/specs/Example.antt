@@ -14,7 +14,7 @@ use Rattle.records.specs.Fields.{headFields, headOk, groupFields, groupInRange,
 use Rattle.contracts.specs.Listing.{contractsOk, contractBad, before, contract, listed}
 use Rattle.contracts.specs.Counted.{contractListed, contractCounted, inFront, isAfter, isCounted, contractIs}
 use Rattle.lookup.specs.Lookup.{groupStart, groupIs, firmIs, groupListed, firmListed}
-use Rattle.schedule.specs.Check.{checkOf, scan, ending, grown, cause, isRepeated, fieldsOk, isFull, lengthOk, isDue, kindOf}
+use Rattle.schedule.specs.Check.{checkOf, scan, ending, withRecord, cause, isRepeated, fieldsOk, isFull, lengthOk, isDue, kindOf}
 use Rattle.book.specs.Activity.{totalsOf}
 use Rattle.book.specs.Book.{checkBook}
 use Rattle.book.specs.Post.{postCause}
@@ -80,7 +80,7 @@ pub record Example : Type 0 where
   pub cutOutput : reportOutput [] (zeros 14) ≡ text "refused 4 at 0"
 
 pub example : Example
-unfolding posted postCause totalsOf checkBook checkOf scan ending grown cause isRepeated fieldsOk isFull lengthOk isDue kindOf
+unfolding posted postCause totalsOf checkBook checkOf scan ending withRecord cause isRepeated fieldsOk isFull lengthOk isDue kindOf
     firmListed groupListed firmIs groupIs groupStart firmOk firmFields hasCode groupInRange groupFields contractsOk contractBad before contract
     listed headOk headFields isLetter contractIs isCounted isAfter inFront contractCounted contractListed daysIn sum joined seekIn all choose u32At
     u16At code anyExcess monthAnswer lineAt tally shown firstLength cutIn bytesBefore recordsFrom decimal refusedAt heading refusedLine markWord

@@ -1,6 +1,5 @@
 -- What a code says of the tests that gave it, by a table of their outcomes; the bounds of factors and codes.
 -- No code gets worse where totals are eased: the factor does not fall, so the bound rises while the score falls.
--- Assumes nothing.
 use Prim.Native.Nat.{ℕ, _*_, _≤_, suc-le-suc}
 use mathlib.Core.Bool.{Bool, true, false, not, _&&_, _||_}
 use mathlib.Core.List.{[], _∷_}

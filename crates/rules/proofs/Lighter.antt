@@ -1,6 +1,5 @@
 -- A lighter month has the same counted days, so its days and its sums are eased and an exempt group stays exempt.
 -- So no place gets worse, and no amount rises.
--- Assumes nothing.
 use Prim.Native.Nat.{ℕ, _+_, _≤_, _<_}
 use mathlib.Core.Bool.{Bool, true, false, cond, not, _&&_, _||_}
 use mathlib.Core.Path.{_≡_, refl, sym}

@@ -1,6 +1,5 @@
 -- What one place's mark says of its code, by a table of the tests that gave the mark. A place of the grouping e has the waivers of e, since its
 -- own grouping is e; and a mark goes by the places up to its own, so judgements that agree there agree on it.
--- Assumes nothing.
 use Prim.Native.Nat.{ℕ, _+_, _-_, _<_}
 use mathlib.Core.Bool.{Bool, true, false, not, _&&_, _||_}
 use mathlib.Core.List.{[], _∷_}

@@ -1,5 +1,4 @@
 -- A search by code in a good schedule finds the only record of its kind that has the code: no code is repeated. A listed group's fields are in range.
--- Assumes nothing.
 use Prim.Native.Nat.{ℕ, _<_}
 use mathlib.Core.Bool.{Bool, true, false}
 use mathlib.Core.List.{List}

@@ -1,5 +1,4 @@
 -- A good schedule holds what specs/Good.antt says: each accepted record keeps it, so it holds where the scan ends.
--- Assumes nothing.
 use Prim.Native.Nat.{ℕ, zero, suc, _+_, _-_, _*_, _%_, _≤_, _<_}
 use mathlib.Core.Bool.{Bool, true, false, cond, not, false≢true}
 use mathlib.Core.List.{List, _++_}
@@ -18,13 +17,13 @@ use Rattle.contracts.specs.Listing.{contractsOk, listed}
 use Rattle.records.specs.declared.fields.Firm.{Firm}
 use Rattle.schedule.specs.Outcome.{refused, good}
 use Rattle.lookup.specs.Lookup.{groupStart, firmStart, groupIs, firmIs, groupListed, firmListed}
-use Rattle.schedule.specs.Check.{kindHere, isDue, lengthOk, fieldsOk, isRepeated, headerCauses, bodyCauses, cause, grown, after, ending, scan, begin, checkOf}
+use Rattle.schedule.specs.Check.{kindHere, isDue, lengthOk, fieldsOk, isRepeated, headerCauses, bodyCauses, cause, withRecord, after, ending, scan, begin, checkOf}
 use Rattle.schedule.specs.Good.{Once, GroupStands, FirmStands, GoodSchedule, Numbered}
 use Rattle.lookup.specs.declared.Layout.{Layout}
 use Rattle.schedule.specs.declared.scan.Cursor.{Cursor}
 use Rattle.schedule.specs.declared.scan.Kind.{Kind}
 use Rattle.schedule.specs.declared.scan.Kind.the-variants as kind
-use Rattle.schedule.proofs.Numbers.{Numbered as HasNumber, kind-number}
+use Rattle.schedule.proofs.Numbers.{HasNumber, kind-number}
 use Rattle.lookup.proofs.Laws.{group-next, group-first}
 use Rattle.schedule.proofs.Turns.{Fine, taken, accepted, scan-end, scan-refused, scan-next}
 
@@ -77,15 +76,19 @@ once-more n p once new i j hi hj ei ej = by (eqb i n) (eqb j n) refl refl
         absurd (false≢true (sym (new (rw (eqb-true j n t) at ej) i l) ∙ ei))
     by false false s t = once i j (omega (arith, eqb-false i n s)) (omega (arith, eqb-false j n t)) ei ej
 
+-- what the head holds that was read: the month m, the closed days c, and f, where it ends
+record Headed (S : List ℕ) (m c f : ℕ) : Type 0 where
+  kind : kindAt S 0 ≡ 1
+  size : lengthAt S 0 ≡ headSize
+  month : m ≡ headFields (bodyAt S 0) .month
+  closed : c ≡ headFields (bodyAt S 0) .closed
+  fields : headOk (headFields (bodyAt S 0)) ≡ true
+  first : f ≡ headSize
+
 -- what the records read so far hold
 record Sound (S : List ℕ) (p : Cursor) : Type 0 where
   bare : p .at ≡ 0 → (p .held .groups ≡ 0) × (p .held .firms ≡ 0)
-  headKind : 0 < p .at → kindAt S 0 ≡ 1
-  headLength : 0 < p .at → lengthAt S 0 ≡ headSize
-  month : 0 < p .at → p .held .month ≡ headFields (bodyAt S 0) .month
-  closed : 0 < p .at → p .held .closed ≡ headFields (bodyAt S 0) .closed
-  head : 0 < p .at → headOk (headFields (bodyAt S 0)) ≡ true
-  first : 0 < p .at → p .held .first ≡ headSize
+  headed : 0 < p .at → Headed S (p .held .month) (p .held .closed) (p .held .first)
   starts : 0 < p .at → p .held .start ≡ groupStart S (p .held .first) (p .held .groups)
   place : 0 < p .at → p .at ≡ firmStart (p .held .start) (p .held .firms)
   grouped : 0 < p .held .firms → 0 < p .held .groups
@@ -99,12 +102,7 @@ sound-begin : (S : List ℕ) → Sound S begin
 sound-begin S =
     record {
       bare = λ q. (refl, refl);
-      headKind = λ h. absurd (omega arith);
-      headLength = λ h. absurd (omega arith);
-      month = λ h. absurd (omega arith);
-      closed = λ h. absurd (omega arith);
-      head = λ h. absurd (omega arith);
-      first = λ h. absurd (omega arith);
+      headed = λ h. absurd (omega arith);
       starts = λ h. absurd (omega arith);
       place = λ h. absurd (omega arith);
       grouped = λ h. absurd (omega arith);
@@ -183,8 +181,8 @@ module _ (S : List ℕ) (p : Cursor) where
   sound-after : (k : Kind) → HasNumber k (kindAt S (p .at)) → isDue k p ≡ true → lengthOk k (lengthAt S (p .at)) ≡ true
       → lengthAt S (p .at) ≤ length S - p .at → fieldsOk k (bodyAt S (p .at)) ≡ true
       → isRepeated k S (p .held) (bodyAt S (p .at)) ≡ false → p .at < length S → Sound S p
-      → Sound S (record { at = p .at + lengthAt S (p .at); held = grown k (bodyAt S (p .at)) (p .at + lengthAt S (p .at)) (p .held) })
-  unfolding isDue fieldsOk isRepeated grown
+      → Sound S (record { at = p .at + lengthAt S (p .at); held = withRecord k (bodyAt S (p .at)) (p .at + lengthAt S (p .at)) (p .held) })
+  unfolding isDue fieldsOk isRepeated withRecord
   sound-after kind.Head number due sized fits fields once l s =
       let stands = eqb-true (p .at) 0 due in
       let ten = head-length (lengthAt S (p .at)) sized in
@@ -192,12 +190,9 @@ module _ (S : List ℕ) (p : Cursor) where
       let origin : groupStart S (p .at + lengthAt S (p .at)) (p .held .groups) ≡ p .at + lengthAt S (p .at) = rw (z .0) (group-first S _) in
       record {
         bare = λ q. absurd (omega arith);
-        headKind = λ h. rw stands at number;
-        headLength = λ h. rw stands at ten;
-        month = λ h. rw stands;
-        closed = λ h. rw stands;
-        head = λ h. rw stands at fields;
-        first = λ h. omega arith;
+        headed =
+            λ h.
+            record { kind = rw stands at number; size = rw stands at ten; month = rw stands; closed = rw stands; fields = rw stands at fields; first = omega arith };
         starts = λ h. sym origin;
         place = λ h. omega arith;
         grouped = s .grouped;
@@ -224,12 +219,7 @@ module _ (S : List ℕ) (p : Cursor) where
       let fine : ok ≡ true = and-left ok (contractsOk (bodyAt S (p .at))) fields in
       record {
         bare = λ q. absurd (omega arith);
-        headKind = λ h. s .headKind pos;
-        headLength = λ h. s .headLength pos;
-        month = λ h. s .month pos;
-        closed = λ h. s .closed pos;
-        head = λ h. s .head pos;
-        first = λ h. s .first pos;
+        headed = λ h. s .headed pos;
         starts = λ h. on;
         place = λ h. omega arith;
         grouped = λ h. omega arith;
@@ -248,12 +238,7 @@ module _ (S : List ℕ) (p : Cursor) where
       let stand : FirmStands S (p .at) = record { kind = number; size = seven; letters = fields } in
       record {
         bare = λ q. absurd (omega arith);
-        headKind = λ h. s .headKind pos;
-        headLength = λ h. s .headLength pos;
-        month = λ h. s .month pos;
-        closed = λ h. s .closed pos;
-        head = λ h. s .head pos;
-        first = λ h. s .first pos;
+        headed = λ h. s .headed pos;
         starts = λ h. s .starts pos;
         place = λ h. omega arith;
         grouped = λ h. omega (arith, some);
@@ -281,21 +266,22 @@ good-schedule S {l} e =
     let r = ending-good S (q .place .held) l (q .layout) in
     let some : 0 < q .place .held .firms = omega (arith, r .1) in
     let pos : 0 < q .place .at = let apart : q .place .at ≡ 0 → ⊥ = λ z. r .1 (s .bare z .1) in omega (arith, apart) in
+    let h = s .headed pos in
     rw (← r .0)
     (record {
       someGroup = s .grouped some;
       mostGroups = f .groups;
       someFirm = some;
       mostFirms = f .firms;
-      headKind = s .headKind pos;
-      headLength = s .headLength pos;
-      first = s .first pos;
+      headKind = h .kind;
+      headLength = h .size;
+      first = h .first;
       starts = s .starts pos;
       ends = omega (arith, s .place pos, f .inside, q .over);
       short = omega (arith, f .near, f .groups, f .firms, q .over);
-      month = s .month pos;
-      closed = s .closed pos;
-      head = s .head pos;
+      month = h .month;
+      closed = h .closed;
+      head = h .fields;
       groups = s .groups;
       ranges = s .ranges;
       firms = s .firms;

@@ -1,5 +1,4 @@
 -- The number of a record's kind, and the lengths that a kind allows.
--- Assumes nothing.
 use Prim.Native.Nat.{ℕ, _%_, _≤_}
 use mathlib.Core.Bool.{Bool, true, false, cond, false≢true}
 use mathlib.Core.Path.{_≡_, refl}
@@ -14,18 +13,18 @@ use Rattle.schedule.specs.declared.scan.Kind.{Kind}
 use Rattle.schedule.specs.declared.scan.Kind.the-variants as kind
 
 -- the number of a kind; any other kind has none
-abbrev pub Numbered : Kind → ℕ → Type 0
-Numbered kind.Head n = n ≡ 1
-Numbered kind.Group n = n ≡ 2
-Numbered kind.Firm n = n ≡ 3
-Numbered kind.Other n = Unit {0}
+abbrev pub HasNumber : Kind → ℕ → Type 0
+HasNumber kind.Head n = n ≡ 1
+HasNumber kind.Group n = n ≡ 2
+HasNumber kind.Firm n = n ≡ 3
+HasNumber kind.Other n = Unit {0}
 
-pub kind-number : (n : ℕ) → Numbered (kindOf n) n
+pub kind-number : (n : ℕ) → HasNumber (kindOf n) n
 unfolding kindOf choose
 kind-number n = by (eqb n 1) (eqb n 2) (eqb n 3) refl refl refl
   where
     by : (a b c : Bool) → eqb n 1 ≡ a → eqb n 2 ≡ b → eqb n 3 ≡ c
-        → Numbered (cond a kind.Head (cond b kind.Group (cond c kind.Firm kind.Other))) n
+        → HasNumber (cond a kind.Head (cond b kind.Group (cond c kind.Firm kind.Other))) n
     by true b c p q r = eqb-true n 1 p
     by false true c p q r = eqb-true n 2 q
     by false false true p q r = eqb-true n 3 r

@@ -1,5 +1,4 @@
 -- Laws of `scan`: what one turn of the check's loop does, that the place stays in bounds, and that a refusal has a number.
--- Assumes nothing.
 use Prim.Native.Nat.{ℕ, zero, suc, _+_, _-_, _*_, _≤_, _<_}
 use mathlib.Core.Bool.{true, false, false≢true}
 use mathlib.Core.List.{List}
@@ -10,7 +9,7 @@ use borrow.Author.Tests.{le-leb, lt-leb, eq-eqb, ne-eqb, eqb-true, eqb-false, lt
 use Rattle.wire.proofs.Choose.{here, next, done, chosen, passed}
 use Rattle.records.specs.Bodies.{lengthAt, bodyAt, headSize, largestGroup, firmSize}
 use Rattle.schedule.specs.Outcome.{refused}
-use Rattle.schedule.specs.Check.{kindHere, isDue, lengthOk, isFull, fieldsOk, isRepeated, cause, grown, after, ending, scan}
+use Rattle.schedule.specs.Check.{kindHere, isDue, lengthOk, isFull, fieldsOk, isRepeated, cause, withRecord, after, ending, scan}
 use Rattle.schedule.specs.declared.scan.Cursor.{Cursor}
 use Rattle.schedule.specs.declared.scan.Kind.{Kind}
 use Rattle.schedule.specs.declared.scan.Kind.the-variants as kind
@@ -66,8 +65,8 @@ module _ (S : List ℕ) (p : Cursor) where
   -- a record that is not refused leads to a place further on, in bounds again
   further : (k : Kind) → isDue k p ≡ true → lengthOk k (lengthAt S (p .at)) ≡ true → lengthAt S (p .at) ≤ length S - p .at
       → isFull k (p .held) ≡ false → p .at < length S → Fine S p
-      → Fine S (record { at = p .at + lengthAt S (p .at); held = grown k (bodyAt S (p .at)) (p .at + lengthAt S (p .at)) (p .held) })
-  unfolding isDue lengthOk isFull grown
+      → Fine S (record { at = p .at + lengthAt S (p .at); held = withRecord k (bodyAt S (p .at)) (p .at + lengthAt S (p .at)) (p .held) })
+  unfolding isDue lengthOk isFull withRecord
   further kind.Head due sized fits full l fine = omega (arith, eqb-true (p .at) 0 due, eqb-true (lengthAt S (p .at)) headSize sized)
   further kind.Group due sized fits full l fine =
       omega (arith, length-bounds kind.Group (lengthAt S (p .at)) sized, eqb-false (p .held .groups) 32 full)

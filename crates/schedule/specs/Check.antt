@@ -86,20 +86,20 @@ module _ (S : List ℕ) (p : Cursor) where
 
 -- what a schedule holds with one record more, which ends at `next`: the month and the closed days are the head's; the first group stands after the
 -- head, the first firm after the last group
-unfoldable pub grown : Kind → (B : List ℕ) → (next : ℕ) → Layout → Layout
-grown kind.Head B next l =
+unfoldable pub withRecord : Kind → (B : List ℕ) → (next : ℕ) → Layout → Layout
+withRecord kind.Head B next l =
     record { month = headFields B .month; closed = headFields B .closed; first = next; groups = l .groups; start = next; firms = l .firms }
-grown kind.Group B next l =
+withRecord kind.Group B next l =
     record { month = l .month; closed = l .closed; first = l .first; groups = l .groups + 1; start = next; firms = l .firms }
-grown kind.Firm B next l =
+withRecord kind.Firm B next l =
     record { month = l .month; closed = l .closed; first = l .first; groups = l .groups; start = l .start; firms = l .firms + 1 }
-grown kind.Other B next l = l
+withRecord kind.Other B next l = l
 
 -- the place after the record at p
 abbrev pub after : (S : List ℕ) → Cursor → Cursor
 after S p =
     let next = p .at + lengthAt S (p .at) in
-    record { at = next; held = grown (kindHere S p) (bodyAt S (p .at)) next (p .held) }
+    record { at = next; held = withRecord (kindHere S p) (bodyAt S (p .at)) next (p .held) }
 
 -- Numbers of refusal, at the end 4, with the schedule's length: a firm comes after a group and a head, so it is missing where one of the three is
 unfoldable pub ending : (S : List ℕ) → Layout → Outcome Layout

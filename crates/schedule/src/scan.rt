@@ -23,7 +23,7 @@ ghost use lib.ListN.{length};
 ghost use Rattle.wire.specs.Choose.{choose};
 ghost use Rattle.lookup.specs.Lookup.{groupListed, firmListed};
 ghost use Rattle.schedule.specs.Check.{kindOf, isDue, lengthOk, isFull, fieldsOk, isRepeated};
-ghost use Rattle.schedule.specs.Check.{headerCauses, bodyCauses, cause, grown, after, meaning, checkOf};
+ghost use Rattle.schedule.specs.Check.{headerCauses, bodyCauses, cause, withRecord, after, meaning, checkOf};
 
 // The kinds of a schedule's records.
 enum Kind {
@@ -197,7 +197,7 @@ fn cause_of(s: &[u8], p: Cursor) -> u8
 // What the schedule holds with one record more, which ends at `next`.
 fn with_record(kind: Kind, body: &[u8], next: usize, l: Layout) -> Layout
     requires { ⌜ (next < 2 ^ 32) × (l .groups ≤ 32) × (l .firms ≤ 200) ⌝ }
-    ensures { λ r. ⌜ r ≡ grown kind (now (body .entry)) next l ⌝ }
+    ensures { λ r. ⌜ r ≡ withRecord kind (now (body .entry)) next l ⌝ }
 {
     match kind {
         Kind::Head => {

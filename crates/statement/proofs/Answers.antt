@@ -1,5 +1,4 @@
 -- What a statement of a firm's month comes to: its answer and output go by 23; and what the arrays of a month show is what the month shows.
--- Assumes nothing.
 use Prim.Native.Nat.{ℕ, _+_, _*_, _≤_, _<_}
 use mathlib.Core.Bool.{Bool, true, false, cond, not}
 use mathlib.Core.List.{List}

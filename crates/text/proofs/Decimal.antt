@@ -1,5 +1,4 @@
 -- A number's fewest decimal digits are as many as the definition says, and how many there are at the most.
--- Assumes nothing.
 use Prim.Native.Nat.{ℕ, zero, suc, _-_, _/_, _^_, _≤_, _<_}
 use mathlib.Core.Bool.{Bool, true, false}
 use mathlib.Core.Path.{_≡_, refl, ap}

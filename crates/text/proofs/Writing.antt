@@ -1,5 +1,4 @@
 -- Laws of writing: an output keeps its length, what is written stands within it, and one text after another is their sum.
--- Assumes nothing.
 use Prim.Native.Nat.{ℕ, _+_, _-_, _≤_, min}
 use mathlib.Core.Bool.{Bool, true, false, _&&_, and-true, and-assoc}
 use mathlib.Core.List.{List, [], _++_, append-assoc, append-nil}

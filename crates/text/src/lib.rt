@@ -1,5 +1,5 @@
-// Text in an output. Each writer takes the place where it starts and answers the place after what it wrote, where the next goes on. No writer asks for
-// room: what has none is left out, and the place says so.
+// Text in an output. Each writer takes the place where it starts and answers the place after what it wrote, where the next goes on. No
+// writer asks for room: what has none is left out, and the place says so.
 mod lines;
 
 ghost use mathlib.Core.Path.{_≡_};

@@ -1,5 +1,4 @@
 -- Laws of tests that are joined, negated, or branched on.
--- Assumes nothing.
 use Prim.Native.Nat.{ℕ, _≤_}
 use mathlib.Core.Bool.{Bool, true, false, cond, not, _&&_, false≢true}
 use mathlib.Core.Path.{_≡_, refl, sym, _∙_}

@@ -1,5 +1,4 @@
 -- Laws of numbers in bytes: past the end stand zeros, and a number that was written is read again.
--- Assumes nothing.
 use Prim.Native.Nat.{ℕ, _+_, _*_, _/_, _%_, _≤_, _<_}
 use mathlib.Core.List.{List, _++_}
 use mathlib.Core.Path.{_≡_, _∙_}

@@ -1,5 +1,4 @@
 -- Laws of walks over a list: what each step keeps the walk keeps, and what a step passes over may be left out.
--- Assumes nothing.
 use mathlib.Core.Bool.{Bool, true, false, cond}
 use mathlib.Core.List.{List, [], _∷_, foldl}
 use mathlib.Core.Path.{_≡_, refl}

@@ -1,5 +1,4 @@
 -- One test implies another. The one field is an order of numbers, so that sums and `omega` take it as it is.
--- Assumes nothing.
 use Prim.Native.Nat.{ℕ, _≤_}
 use mathlib.Core.Bool.{Bool, true, false, cond, not, _&&_}
 use mathlib.Core.Path.{_≡_, refl}

@@ -1,5 +1,4 @@
 -- Leap February has its own answer; any other month's is the table's, which the code and the definition share.
--- Assumes nothing.
 use mathlib.Core.Path.{sym, _∙_}
 use borrow.Author.Needs.{needs}
 use Rattle.calendar.specs.Calendar.{daysIn}

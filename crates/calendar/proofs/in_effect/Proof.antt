@@ -1,5 +1,4 @@
 -- A day outside the month fails one of the two tests of its range; inside it the shift by day - 1, below 31, reads its bit.
--- Assumes nothing.
 use native.Mathlib.Omega.{arith}
 use borrow.Author.Needs.{needs}
 use borrow.Author.Tests.{lt-leb, le-leb}

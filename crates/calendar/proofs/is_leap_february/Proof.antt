@@ -1,5 +1,4 @@
 -- The two tests are the definition's, of the same month and year.
--- Assumes nothing.
 use mathlib.Core.Path.{refl}
 use Rattle.calendar.proofs.is_leap_february.Statement.{statement}
 use Rattle.calendar.proofs.is_leap_february.Tie as tie

@@ -1,5 +1,4 @@
 -- The book's array keeps its length. Each command takes a byte of the script at least, so what is left of the script grows less.
--- Assumes nothing.
 use Prim.Native.Nat.{_-_}
 use mathlib.Core.Path.{_≡_}
 use lib.ListN.{length}
@@ -15,15 +14,5 @@ abbrev μ-loop : tie.MeasureT-loop
 
 pub run-script-spec : {M : Type 1} → statement M
 run-script-spec =
-    tie.close
-    (tie.spec
-    Inv-loop
-    μ-loop
-    (λ c. search needs)
-    (λ c κs. search needs)
-    (λ c. search needs)
-    (λ c. search needs)
-    (λ c. search needs)
-    (λ c. search needs)
-    (λ c. search needs)
-    (λ c. search needs))
+    tie.close (tie.spec Inv-loop μ-loop (λ c. search needs) (λ c κs. search needs) (λ c. search needs) (λ c. search needs)
+    (λ c. search needs) (λ c. search needs) (λ c. search needs) (λ c. search needs))

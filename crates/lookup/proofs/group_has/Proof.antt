@@ -1,5 +1,4 @@
 -- The two tests are the definition's, of the fields that the record holds.
--- Assumes nothing.
 use borrow.Author.Needs.{needs}
 use Rattle.wire.proofs.Choose.{and-all}
 use Rattle.lookup.proofs.group_has.Statement.{statement}

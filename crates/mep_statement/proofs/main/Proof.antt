@@ -1,5 +1,4 @@
 -- The report's answer lies within the output, so that many of its bytes can be printed.
--- Assumes nothing.
 use mathlib.Core.Path.{sym}
 use lib.Seq.{length-take-le}
 use borrow.Author.Needs.{needs}
@@ -21,23 +20,7 @@ slice-aggregate-write-all-2 c = sym (length-take-le _ _ (array-share-prefix-out-
 
 pub main-spec : {M : Type 1} → statement M
 main-spec =
-    tie.close
-    (tie.spec
-    (λ c. search needs)
-    (λ c. search needs)
-    (λ c. search needs)
-    (λ c. search needs)
-    (λ c. search needs)
-    (λ c. search needs)
-    (λ c. search needs)
-    (λ c. search needs)
-    (λ c. search needs)
-    array-share-prefix-out
-    slice-aggregate-write-all
-    (λ c. search needs)
-    (λ c. search needs)
-    array-share-prefix-out-2
-    slice-aggregate-write-all-2
-    (λ c. search needs)
-    (λ c. search needs)
-    (λ c. search needs))
+    tie.close (tie.spec (λ c. search needs) (λ c. search needs) (λ c. search needs) (λ c. search needs) (λ c. search needs)
+    (λ c. search needs) (λ c. search needs) (λ c. search needs) (λ c. search needs) array-share-prefix-out
+    slice-aggregate-write-all (λ c. search needs) (λ c. search needs) array-share-prefix-out-2 slice-aggregate-write-all-2
+    (λ c. search needs) (λ c. search needs) (λ c. search needs))

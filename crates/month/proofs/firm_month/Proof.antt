@@ -1,5 +1,4 @@
 -- Refusals 1 to 8 are those of the check, and an unlisted firm is 21. A listed firm has one place, which fits a byte, and the rest is its month.
--- Assumes nothing.
 use Prim.Native.Nat.{_<_}
 use mathlib.Core.Path.{_≡_, sym, ap, _∙_}
 use native.Mathlib.Nat.{lt-trans}
@@ -53,18 +52,6 @@ listed-month-requires c κs =
 
 pub firm-month-spec : {M : Type 1} → statement M
 firm-month-spec =
-    tie.close
-    (tie.spec
-    (λ c κs. search needs)
-    (λ c. search needs)
-    refused-month-requires
-    (λ c. search needs)
-    (λ c κs. search needs)
-    (λ c. search needs)
-    refused-month-requires-2
-    (λ c. search needs)
-    cast-listed-month
-    listed-month-requires
-    (λ c. search needs)
-    (λ c. search needs)
-    (λ c. search needs))
+    tie.close (tie.spec (λ c κs. search needs) (λ c. search needs) refused-month-requires (λ c. search needs)
+    (λ c κs. search needs) (λ c. search needs) refused-month-requires-2 (λ c. search needs) cast-listed-month
+    listed-month-requires (λ c. search needs) (λ c. search needs) (λ c. search needs))

@@ -1,5 +1,4 @@
 -- The arrays are filled from the month's definitions, and the marks given to what they hold are the month's own.
--- Assumes nothing.
 use mathlib.Core.Path.{ap, _∙_}
 use denote.Ref.{now}
 use borrow.Author.Needs.{needs}
@@ -61,12 +60,5 @@ returns c =
 
 pub judged-month-spec : {M : Type 1} → statement M
 judged-month-spec =
-    tie.close
-    (tie.spec
-    (λ c κs. search needs)
-    (λ c κs. search needs)
-    fill-codes-requires
-    fill-exempts-requires
-    (λ c κs. search needs)
-    give-marks-requires
-    returns)
+    tie.close (tie.spec (λ c κs. search needs) (λ c κs. search needs) fill-codes-requires fill-exempts-requires
+    (λ c κs. search needs) give-marks-requires returns)

@@ -1,5 +1,4 @@
 -- 22 where a number is above the limit, and else the month.
--- Assumes nothing.
 use mathlib.Core.Path.{sym, _∙_}
 use borrow.Author.Needs.{needs}
 use Rattle.month.proofs.Answers.{is-22}
@@ -14,5 +13,5 @@ judged-month-requires c κs = (c .before .before .before .before .before .pre, s
 
 pub listed-month-spec : {M : Type 1} → statement M
 listed-month-spec =
-    tie.close
-    (tie.spec (λ c κs. search needs) refused-month-requires (λ c. search needs) judged-month-requires (λ c. search needs))
+    tie.close (tie.spec (λ c κs. search needs) refused-month-requires (λ c. search needs) judged-month-requires
+    (λ c. search needs))

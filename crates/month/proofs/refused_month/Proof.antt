@@ -1,5 +1,4 @@
 -- The answer is the refusal, and the arrays hold zeros.
--- Assumes nothing.
 use Rattle.month.proofs.refused_month.Statement.{statement}
 use Rattle.month.proofs.refused_month.Tie as tie
 

@@ -1,5 +1,4 @@
 -- Three texts, each after the last: the heading, the refused records of the posts to the opened book, and the firms' lines from the book as they left it.
--- Assumes nothing.
 use mathlib.Core.Path.{ap, _∙_}
 use borrow.Author.Needs.{needs}
 use Rattle.book.specs.Book.{openBook}
@@ -24,15 +23,5 @@ returns c =
 
 pub put-month-spec : {M : Type 1} → statement M
 put-month-spec =
-    tie.close
-    (tie.spec
-    (λ c. search needs)
-    (λ c. search needs)
-    (λ c. search needs)
-    (λ c. search needs)
-    (λ c. search needs)
-    (λ c. search needs)
-    (λ c. search needs)
-    (λ c. search needs)
-    (λ c. wrote-length (returns c))
-    returns)
+    tie.close (tie.spec (λ c. search needs) (λ c. search needs) (λ c. search needs) (λ c. search needs) (λ c. search needs)
+    (λ c. search needs) (λ c. search needs) (λ c. search needs) (λ c. wrote-length (returns c)) returns)

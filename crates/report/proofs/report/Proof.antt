@@ -1,5 +1,4 @@
 -- The text starts at the front, and the place after it says whether all of it had room.
--- Assumes nothing.
 use borrow.Author.Needs.{needs}
 use Rattle.report.proofs.Answers.{is-whole, is-cut}
 use Rattle.report.proofs.report.Statement.{statement}
@@ -13,10 +12,4 @@ returns-2 c = is-cut (c .before .before .before .put-report .ensures) (c .if1 .l
 
 pub report-spec : {M : Type 1} → statement M
 report-spec =
-    tie.close
-    (tie.spec
-    (λ c. search needs)
-    (λ c. search needs)
-    returns
-    (λ c. search needs)
-    returns-2)
+    tie.close (tie.spec (λ c. search needs) (λ c. search needs) returns (λ c. search needs) returns-2)

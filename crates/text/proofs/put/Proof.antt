@@ -1,6 +1,5 @@
 -- Each turn copies one byte more (`paste-suc`). n is what there is room for, so every index lies in the output and in the text; past the output's end n
 -- is 0, and no turn is taken.
--- Assumes nothing.
 use Prim.Native.Nat.{_-_, _≤_}
 use mathlib.Core.Path.{refl, _≡_}
 use native.Mathlib.Omega.{arith}
@@ -61,18 +60,5 @@ returns c =
 
 pub put-spec : {M : Type 1} → statement M
 put-spec =
-    tie.close
-    (tie.spec
-    Inv-loop
-    μ-loop
-    (λ c κs. search needs)
-    loop-holds
-    shared-slice-read-out
-    (λ c. search needs)
-    slice-write-out
-    (λ c. search needs)
-    loop-less
-    loop-again
-    (λ c. search needs)
-    same-length
-    returns)
+    tie.close (tie.spec Inv-loop μ-loop (λ c κs. search needs) loop-holds shared-slice-read-out (λ c. search needs)
+    slice-write-out (λ c. search needs) loop-less loop-again (λ c. search needs) same-length returns)

@@ -1,5 +1,4 @@
 -- The number stands right after the space.
--- Assumes nothing.
 use borrow.Author.Needs.{needs}
 use Rattle.text.proofs.Writing.{wrote-length, _then_}
 use Rattle.text.proofs.put_field.Statement.{statement}
@@ -13,10 +12,4 @@ returns c =
 
 pub put-field-spec : {M : Type 1} → statement M
 put-field-spec =
-    tie.close
-    (tie.spec
-    (λ c. search needs)
-    (λ c. search needs)
-    (λ c. search needs)
-    (λ c. wrote-length (returns c))
-    returns)
+    tie.close (tie.spec (λ c. search needs) (λ c. search needs) (λ c. search needs) (λ c. wrote-length (returns c)) returns)

@@ -1,5 +1,4 @@
 -- The two early answers are the two ways in which the length field does not serve; past them it lies from four to the run's length.
--- Assumes nothing.
 use mathlib.Core.Path.{sym, _∙_}
 use borrow.Author.Needs.{needs}
 use Rattle.wire.proofs.Cut.{first-under, first-past, first-field}

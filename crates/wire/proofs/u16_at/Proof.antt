@@ -1,5 +1,4 @@
 -- Inside the slice the sum is the definition's, byte by byte; past the end both bytes are zeros.
--- Assumes nothing.
 use mathlib.Core.Path.{sym}
 use borrow.Author.Needs.{needs}
 use Rattle.wire.specs.Bytes.{u16At}
@@ -16,14 +15,5 @@ returns-2 c = search needs
 
 pub u16-at-spec : {M : Type 1} → statement M
 u16-at-spec =
-    tie.close
-    (tie.spec
-    returns
-    (λ c κs. search needs)
-    (λ c. search needs)
-    (λ c. search needs)
-    (λ c κs. search needs)
-    (λ c. search needs)
-    (λ c. search needs)
-    (λ c. search needs)
-    returns-2)
+    tie.close (tie.spec returns (λ c κs. search needs) (λ c. search needs) (λ c. search needs) (λ c κs. search needs)
+    (λ c. search needs) (λ c. search needs) (λ c. search needs) returns-2)

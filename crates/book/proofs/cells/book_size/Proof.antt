@@ -1,5 +1,4 @@
 -- Groups and firms are bytes, so the product fits.
--- Assumes nothing.
 use Prim.Native.Nat.{_*_, _≤_}
 use native.Mathlib.Nat.{mul-le-mul}
 use native.Mathlib.Omega.{arith}

@@ -1,5 +1,4 @@
 -- The numbers are those at the place and the two after, each 0 past the book's end, as in the definition.
--- Assumes nothing.
 use borrow.Author.Needs.{needs}
 use Rattle.book.proofs.cells.cell_at.Statement.{statement}
 use Rattle.book.proofs.cells.cell_at.Tie as tie
@@ -9,11 +8,5 @@ returns c = rw (c .before .before .number-at .ensures, c .before .number-at2 .en
 
 pub cell-at-spec : {M : Type 1} → statement M
 cell-at-spec =
-    tie.close
-    (tie.spec
-    (λ c κs. search needs)
-    (λ c. search needs)
-    (λ c κs. search needs)
-    (λ c. search needs)
-    (λ c κs. search needs)
-    returns)
+    tie.close (tie.spec (λ c κs. search needs) (λ c. search needs) (λ c κs. search needs) (λ c. search needs)
+    (λ c κs. search needs) returns)

@@ -1,5 +1,4 @@
 -- The number of firm and group is below 2^17, so the index fits; it is the definition's, word for word.
--- Assumes nothing.
 use Prim.Native.Nat.{_*_, _≤_}
 use native.Mathlib.Nat.{mul-le-mul}
 use native.Mathlib.Omega.{arith}

@@ -1,5 +1,4 @@
 -- Inside the book the number is the element; past the end `getD` gives its default, 0.
--- Assumes nothing.
 use mathlib.Core.Path.{sym}
 use lib.ListN.{List·getD-eq-default}
 use denote.Ref.{now}

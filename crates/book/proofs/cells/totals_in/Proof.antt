@@ -1,5 +1,4 @@
 -- The test is that of the definition: where it fails there are no totals, and else the cell is read at its index, which is small.
--- Assumes nothing.
 use Prim.Native.Nat.{_≤_}
 use mathlib.Core.Bool.{true, false, _&&_}
 use mathlib.Core.Path.{_≡_, ap}

@@ -1,6 +1,5 @@
 -- Where the first table refuses the record, it decides. Where it does not, the record has 44 bytes, as the rest asks, and the second table
 -- decides.
--- Assumes nothing.
 use mathlib.Core.Bool.{_&&_}
 use mathlib.Core.Path.{refl, sym, _∙_}
 use native.Mathlib.Omega.{arith}

@@ -1,5 +1,4 @@
 -- The tests on the way are the rows 16 and 17; the contract's status and the day then say whether the record is counted.
--- Assumes nothing.
 use Prim.Native.Nat.{ℕ, _≤_}
 use mathlib.Core.Bool.{true, false, not, and-false}
 use mathlib.Core.List.{List}
@@ -111,19 +110,6 @@ returns-5 c =
 
 pub file-found-spec : {M : Type 1} → statement M
 file-found-spec =
-    tie.close
-    (tie.spec
-    (λ c κs. search needs)
-    (λ c κs. search needs)
-    returns
-    (λ c κs. search needs)
-    (λ c κs. search needs)
-    (λ c. search needs)
-    (λ c. search needs)
-    (λ c. search needs)
-    (λ c κs. search needs)
-    returns-2
-    cell-index-requires
-    returns-3
-    returns-4
-    returns-5)
+    tie.close (tie.spec (λ c κs. search needs) (λ c κs. search needs) returns (λ c κs. search needs) (λ c κs. search needs)
+    (λ c. search needs) (λ c. search needs) (λ c. search needs) (λ c κs. search needs) returns-2 cell-index-requires returns-3
+    returns-4 returns-5)

@@ -1,5 +1,4 @@
 -- A search that finds nothing is the row 14 or 15; what it finds is the first firm and group with the codes.
--- Assumes nothing.
 use mathlib.Core.Bool.{not}
 use mathlib.Core.Path.{_≡_, refl, sym, ap, _∙_}
 use native.Mathlib.Omega.{arith}
@@ -73,21 +72,6 @@ returns-3 c =
 
 pub file-listed-spec : {M : Type 1} → statement M
 file-listed-spec =
-    tie.close
-    (tie.spec
-    (λ c. search needs)
-    (λ c. search needs)
-    (λ c. search needs)
-    (λ c. search needs)
-    (λ c κs. search needs)
-    (λ c. search needs)
-    (λ c. search needs)
-    (λ c κs. search needs)
-    (λ c κs. search needs)
-    (λ c κs. search needs)
-    (λ c. search needs)
-    (λ c. search needs)
-    file-found-requires
-    returns
-    returns-2
-    returns-3)
+    tie.close (tie.spec (λ c. search needs) (λ c. search needs) (λ c. search needs) (λ c. search needs) (λ c κs. search needs)
+    (λ c. search needs) (λ c. search needs) (λ c κs. search needs) (λ c κs. search needs) (λ c κs. search needs)
+    (λ c. search needs) (λ c. search needs) file-found-requires returns returns-2 returns-3)

@@ -1,5 +1,4 @@
 -- Each return is the row of the table whose test is the first to hold; the tests passed on the way say that the rows above it do not.
--- Assumes nothing.
 use mathlib.Core.Bool.{not, false}
 use mathlib.Core.Path.{_≡_, sym, ap}
 use lib.Dec.{ltb, eqb}
@@ -38,5 +37,4 @@ returns-4 c =
 
 pub form-cause-spec : {M : Type 1} → statement M
 form-cause-spec =
-    tie.close
-    (tie.spec returns (λ c κs. search needs) returns-2 (λ c κs. search needs) (λ c. search needs) returns-3 returns-4)
+    tie.close (tie.spec returns (λ c κs. search needs) returns-2 (λ c κs. search needs) (λ c. search needs) returns-3 returns-4)

@@ -1,5 +1,4 @@
 -- The body is the definition's, and so is its answer.
--- Assumes nothing.
 use borrow.Author.Needs.{needs}
 use Rattle.book.proofs.filing.status_at.Statement.{statement}
 use Rattle.book.proofs.filing.status_at.Tie as tie

@@ -1,6 +1,5 @@
 -- After i turns the value stands in the first i places, written over the numbers as they were. The least of n and the length is inside the
 -- slice, so every store is.
--- Assumes nothing.
 use Prim.Native.Nat.{_-_, _≤_}
 use mathlib.Core.Path.{_≡_, refl, _∙_}
 use native.Mathlib.Omega.{arith}
@@ -39,16 +38,5 @@ returns c =
 
 pub fill-spec : {M : Type 1} → statement M
 fill-spec =
-    tie.close
-    (tie.spec
-    Inv-loop
-    μ-loop
-    (λ c κs. search needs)
-    loop-holds
-    (λ c. search needs)
-    slice-write-numbers
-    (λ c. search needs)
-    (λ c. search needs)
-    loop-again
-    same-length
-    returns)
+    tie.close (tie.spec Inv-loop μ-loop (λ c κs. search needs) loop-holds (λ c. search needs) slice-write-numbers
+    (λ c. search needs) (λ c. search needs) loop-again same-length returns)

@@ -1,5 +1,4 @@
 -- Where every total has room, no sum is above the limit, so none wraps; else the book is left alone.
--- Assumes nothing.
 use native.Mathlib.Omega.{arith}
 use borrow.Author.Needs.{needs}
 use Rattle.wire.proofs.Bools.{yes, no}
@@ -43,15 +42,5 @@ returns-2 c =
 
 pub add-spec : {M : Type 1} → statement M
 add-spec =
-    tie.close
-    (tie.spec
-    (λ c κs. search needs)
-    (λ c κs. search needs)
-    (λ c. search needs)
-    returns
-    add-t11
-    add-t12
-    add-t13
-    (λ c κs. search needs)
-    (λ c. search needs)
-    returns-2)
+    tie.close (tie.spec (λ c κs. search needs) (λ c κs. search needs) (λ c. search needs) returns add-t11 add-t12 add-t13
+    (λ c κs. search needs) (λ c. search needs) returns-2)

@@ -1,5 +1,4 @@
 -- The three tests are those of the definition, in its order.
--- Assumes nothing.
 use borrow.Author.Needs.{needs}
 use Rattle.wire.proofs.Choose.{and-all}
 use Rattle.book.proofs.posting.can_add.Statement.{statement}

@@ -1,5 +1,4 @@
 -- A total above the limit has no room for anything; below it the difference does not wrap, and the test is the sum's.
--- Assumes nothing.
 use Prim.Native.Nat.{_+_, _-_}
 use mathlib.Core.Bool.{Bool, true, false}
 use mathlib.Core.Path.{_≡_, refl, sym}

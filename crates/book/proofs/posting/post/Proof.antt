@@ -1,5 +1,4 @@
 -- Refusals 1 to 8 leave the book alone; the rest is the post to a book of the right size.
--- Assumes nothing.
 use mathlib.Core.Path.{sym, ap, _∙_}
 use borrow.Author.Needs.{needs}
 use Rattle.schedule.specs.Check.{meaning}
@@ -16,12 +15,5 @@ returns c =
 
 pub post-spec : {M : Type 1} → statement M
 post-spec =
-    tie.close
-    (tie.spec
-    (λ c κs. search needs)
-    (λ c. search needs)
-    (λ c. search needs)
-    post-checked-requires
-    returns
-    (λ c. search needs)
-    (λ c. search needs))
+    tie.close (tie.spec (λ c κs. search needs) (λ c. search needs) (λ c. search needs) post-checked-requires returns
+    (λ c. search needs) (λ c. search needs))

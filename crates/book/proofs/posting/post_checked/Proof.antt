@@ -1,5 +1,4 @@
 -- Each way that the schedule takes a record is one of the answers; a record to be added has its cell inside the book.
--- Assumes nothing.
 use mathlib.Core.Path.{refl}
 use native.Mathlib.Omega.{arith}
 use denote.Ref.{now}
@@ -47,15 +46,5 @@ returns-3 c =
 
 pub post-checked-spec : {M : Type 1} → statement M
 post-checked-spec =
-    tie.close
-    (tie.spec
-    (λ c κs. search needs)
-    (λ c. search needs)
-    (λ c. search needs)
-    (λ c. search needs)
-    (λ c κs. search needs)
-    add-requires
-    returns
-    returns-2
-    (λ c. search needs)
-    returns-3)
+    tie.close (tie.spec (λ c κs. search needs) (λ c. search needs) (λ c. search needs) (λ c. search needs) (λ c κs. search needs)
+    add-requires returns returns-2 (λ c. search needs) returns-3)

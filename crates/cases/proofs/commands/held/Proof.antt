@@ -1,5 +1,4 @@
 -- The lesser of a number and the array's length counts a front of the array.
--- Assumes nothing.
 use mathlib.Core.Path.{sym}
 use native.Mathlib.Omega.{arith}
 use lib.Seq.{length-take-le}

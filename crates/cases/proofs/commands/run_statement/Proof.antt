@@ -1,5 +1,4 @@
 -- The size was tested against the array's, so the part that is lent has that size.
--- Assumes nothing.
 use mathlib.Core.Path.{sym}
 use native.Mathlib.Omega.{arith}
 use lib.ListN.{length-take}
@@ -16,21 +15,7 @@ print-statement-requires c κs = simp length-take (omega arith)
 
 pub run-statement-spec : {M : Type 1} → statement M
 run-statement-spec =
-    tie.close
-    (tie.spec
-    (λ c κs. search needs)
-    (λ c κs. search needs)
-    (λ c. search needs)
-    (λ c. search needs)
-    (λ c κs. search needs)
-    (λ c. search needs)
-    (λ c κs. search needs)
-    (λ c κs. search needs)
-    (λ c κs. search needs)
-    (λ c κs. search needs)
-    (λ c. search needs)
-    (λ c. search needs)
-    slice-aggregate-print-statement-2
-    print-statement-requires
-    (λ c κs. search needs)
-    (λ c. search needs))
+    tie.close (tie.spec (λ c κs. search needs) (λ c κs. search needs) (λ c. search needs) (λ c. search needs)
+    (λ c κs. search needs) (λ c. search needs) (λ c κs. search needs) (λ c κs. search needs) (λ c κs. search needs)
+    (λ c κs. search needs) (λ c. search needs) (λ c. search needs) slice-aggregate-print-statement-2 print-statement-requires
+    (λ c κs. search needs) (λ c. search needs))

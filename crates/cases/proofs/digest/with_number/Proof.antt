@@ -1,5 +1,4 @@
 -- 31 is 3 times 8 and 7. What each remainder leaves out is a multiple of the modulus, so the sum has the remainder of the whole.
--- Assumes nothing.
 use Prim.Native.Nat.{ℕ, _+_, _*_, _/_, _%_}
 use mathlib.Core.Path.{_≡_, sym}
 use native.Mathlib.Nat.{add-mul, mul-assoc, div-add-mod', add-mul-mod-self-right}
@@ -20,4 +19,5 @@ returns c = by-parts modulus (c .args .digest) (c .args .n)
 
 pub with-number-spec : {M : Type 1} → statement M
 with-number-spec =
-    tie.close (tie.spec (λ c. search needs) (λ c. search needs) (λ c. search needs) (λ c. search needs) (λ c. search needs) returns)
+    tie.close (tie.spec (λ c. search needs) (λ c. search needs) (λ c. search needs) (λ c. search needs) (λ c. search needs)
+    returns)

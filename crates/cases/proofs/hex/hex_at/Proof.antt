@@ -1,5 +1,4 @@
 -- An even place has the upper half of its byte, an odd one the lower half.
--- Assumes nothing.
 use borrow.Author.Needs.{needs}
 use borrow.Author.Tests.{eq-eqb, ne-eqb}
 use Rattle.cases.specs.Hex.{hexAt}

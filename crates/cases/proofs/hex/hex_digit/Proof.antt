@@ -1,5 +1,4 @@
 -- The test of the code is that of the definition.
--- Assumes nothing.
 use borrow.Author.Needs.{needs}
 use borrow.Author.Tests.{lt-ltb, le-ltb}
 use Rattle.cases.proofs.hex.hex_digit.Statement.{statement}

@@ -1,5 +1,4 @@
 -- Cut at the script's end, a piece has the bytes that it had. Where it starts past its end or the script's, both are empty.
--- Assumes nothing.
 use Prim.Native.Nat.{ℕ, _-_, _≤_, _<_, min}
 use mathlib.Core.List.{List}
 use mathlib.Core.Logic.{⊎-elim}
@@ -35,5 +34,5 @@ returns c =
 
 pub bytes-of-spec : {M : Type 1} → statement M
 bytes-of-spec =
-    tie.close
-    (tie.spec (λ c κs. search needs) (λ c κs. search needs) (λ c. search needs) (λ c. search needs) (λ c. search needs) returns)
+    tie.close (tie.spec (λ c κs. search needs) (λ c κs. search needs) (λ c. search needs) (λ c. search needs) (λ c. search needs)
+    returns)

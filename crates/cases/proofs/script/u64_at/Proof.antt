@@ -1,5 +1,4 @@
 -- Two halves of four bytes; past the end both are 0.
--- Assumes nothing.
 use Prim.Native.Nat.{_+_}
 use native.Mathlib.Omega.{arith}
 use denote.Ref.{now}
@@ -21,14 +20,5 @@ returns-2 c = search needs
 
 pub u64-at-spec : {M : Type 1} → statement M
 u64-at-spec =
-    tie.close
-    (tie.spec
-    returns
-    (λ c κs. search needs)
-    (λ c. search needs)
-    (λ c. search needs)
-    (λ c κs. search needs)
-    (λ c. search needs)
-    (λ c. search needs)
-    (λ c. search needs)
-    returns-2)
+    tie.close (tie.spec returns (λ c κs. search needs) (λ c. search needs) (λ c. search needs) (λ c κs. search needs)
+    (λ c. search needs) (λ c. search needs) (λ c. search needs) returns-2)

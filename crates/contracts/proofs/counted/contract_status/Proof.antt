@@ -1,5 +1,4 @@
 -- The three answers are the rows of the definition's table, in its order.
--- Assumes nothing.
 use mathlib.Core.Bool.{not, false}
 use mathlib.Core.Path.{_≡_, sym, ap, _∙_}
 use denote.Ref.{now}
@@ -39,12 +38,5 @@ returns-3 c =
 
 pub contract-status-spec : {M : Type 1} → statement M
 contract-status-spec =
-    tie.close
-    (tie.spec
-    (λ c κs. search needs)
-    (λ c κs. search needs)
-    returns
-    (λ c κs. search needs)
-    (λ c κs. search needs)
-    returns-2
-    returns-3)
+    tie.close (tie.spec (λ c κs. search needs) (λ c κs. search needs) returns (λ c κs. search needs) (λ c κs. search needs)
+    returns-2 returns-3)

@@ -1,5 +1,4 @@
 -- While fewer than k were found the front mask decides; after them the extra mask, for the first there.
--- Assumes nothing.
 use Prim.Native.Nat.{ℕ, _≤_, _<_}
 use mathlib.Core.Bool.{true, false, or-false, and-true, and-false}
 use mathlib.Core.List.{List}
@@ -59,13 +58,5 @@ returns-3 c =
 
 pub is-counted-spec : {M : Type 1} → statement M
 is-counted-spec =
-    tie.close
-    (tie.spec
-    (λ c κs. search needs)
-    (λ c κs. search needs)
-    (λ c. search needs)
-    (λ c κs. search needs)
-    returns
-    returns-2
-    (λ c κs. search needs)
-    returns-3)
+    tie.close (tie.spec (λ c κs. search needs) (λ c κs. search needs) (λ c. search needs) (λ c κs. search needs) returns returns-2
+    (λ c κs. search needs) returns-3)

@@ -1,5 +1,4 @@
 -- With fewer than k before it a contract is not after them; else the extra mask decides.
--- Assumes nothing.
 use borrow.Author.Tests.{lt-leb, le-leb}
 use borrow.Author.Needs.{needs}
 use Rattle.contracts.proofs.counted.is_late.Statement.{statement}

@@ -1,5 +1,4 @@
 -- Both numbers are the counts over the places passed: a turn adds 1 to each where the definition's test holds at its place.
--- Assumes nothing.
 use Prim.Native.Nat.{ℕ, _+_, _-_, _≤_}
 use mathlib.Core.Bool.{_&&_}
 use mathlib.Core.List.{List}
@@ -73,21 +72,6 @@ returns c =
 
 pub passed-before-spec : {M : Type 1} → statement M
 passed-before-spec =
-    tie.close
-    (tie.spec
-    Inv-loop
-    μ-loop
-    loop-holds
-    (λ c κs. search needs)
-    (λ c κs. search needs)
-    (λ c κs. search needs)
-    (λ c. search needs)
-    add-extra
-    (λ c κs. search needs)
-    (λ c κs. search needs)
-    (λ c. search needs)
-    add-front
-    add-i
-    (λ c. search needs)
-    loop-again
-    returns)
+    tie.close (tie.spec Inv-loop μ-loop loop-holds (λ c κs. search needs) (λ c κs. search needs) (λ c κs. search needs)
+    (λ c. search needs) add-extra (λ c κs. search needs) (λ c κs. search needs) (λ c. search needs) add-front add-i
+    (λ c. search needs) loop-again returns)

@@ -1,5 +1,4 @@
 -- The search from place i has the same answer as from the first.
--- Assumes nothing.
 use Prim.Native.Nat.{_-_}
 use mathlib.Core.Path.{_≡_, sym, _∙_}
 use borrow.Author.Tests.{eq-eqb, ne-eqb}
@@ -39,15 +38,5 @@ returns-2 c = sym (c .before .loop .inv ∙ seek-end _ _ _ (rw (c .before .befor
 
 pub seek-contract-spec : {M : Type 1} → statement M
 seek-contract-spec =
-    tie.close
-    (tie.spec
-    Inv-loop
-    μ-loop
-    (λ c κs. search needs)
-    (λ c. search needs)
-    (λ c κs. search needs)
-    returns
-    (λ c. search needs)
-    (λ c. search needs)
-    loop-again
-    returns-2)
+    tie.close (tie.spec Inv-loop μ-loop (λ c κs. search needs) (λ c. search needs) (λ c κs. search needs) returns
+    (λ c. search needs) (λ c. search needs) loop-again returns-2)

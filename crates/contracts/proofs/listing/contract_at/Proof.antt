@@ -1,5 +1,4 @@
 -- A listed contract's two bytes lie in the body, so its place does not wrap.
--- Assumes nothing.
 use native.Mathlib.Omega.{arith}
 use borrow.Author.Needs.{needs}
 use Rattle.contracts.specs.Listing.{listed, contract}

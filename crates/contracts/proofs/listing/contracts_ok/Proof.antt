@@ -1,6 +1,5 @@
 -- The search for a bad contract has found none so far, and `last` is the contract before: so a return stops at the first bad one,
 -- and a walk to the end found none.
--- Assumes nothing.
 use Prim.Native.Nat.{ℕ, _+_, _-_, _≤_, _<_}
 use mathlib.Core.Bool.{Bool, true, false, not}
 use mathlib.Core.List.{List}
@@ -85,17 +84,5 @@ returns-3 c = passed _ _ (c .before .loop .inv .2) (rw (c .before .before .liste
 
 pub contracts-ok-spec : {M : Type 1} → statement M
 contracts-ok-spec =
-    tie.close
-    (tie.spec
-    Inv-loop
-    μ-loop
-    (λ c κs. search needs)
-    loop-holds
-    (λ c κs. search needs)
-    (λ c κs. search needs)
-    returns
-    returns-2
-    (λ c. search needs)
-    (λ c. search needs)
-    loop-again
-    returns-3)
+    tie.close (tie.spec Inv-loop μ-loop (λ c κs. search needs) loop-holds (λ c κs. search needs) (λ c κs. search needs) returns
+    returns-2 (λ c. search needs) (λ c. search needs) loop-again returns-3)

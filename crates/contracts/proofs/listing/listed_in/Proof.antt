@@ -1,5 +1,4 @@
 -- A body with fewer than 12 bytes lists nothing; else two bytes are a contract.
--- Assumes nothing.
 use native.Mathlib.Omega.{arith}
 use borrow.Author.Needs.{needs}
 use Rattle.contracts.specs.Listing.{listed}

@@ -1,5 +1,4 @@
 -- The code of a verdict is small; any other verdict has none.
--- Assumes nothing.
 use mathlib.Core.Path.{sym, ap}
 use native.Mathlib.Omega.{arith}
 use borrow.Author.Needs.{needs}

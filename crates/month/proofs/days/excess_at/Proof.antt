@@ -1,5 +1,4 @@
 -- The place's day and group are the definition's, and the cell is the firm's there.
--- Assumes nothing.
 use borrow.Author.Needs.{needs}
 use Rattle.month.proofs.days.excess_at.Statement.{statement}
 use Rattle.month.proofs.days.excess_at.Tie as tie
@@ -9,5 +8,5 @@ returns c = rw (c .fits2 .ensures, c .before .days-in .ensures, c .before .befor
 
 pub excess-at-spec : {M : Type 1} → statement M
 excess-at-spec =
-    tie.close
-    (tie.spec (λ c. search needs) (λ c. search needs) (λ c. search needs) (λ c κs. search needs) (λ c κs. search needs) (λ c κs. search needs) returns)
+    tie.close (tie.spec (λ c. search needs) (λ c. search needs) (λ c. search needs) (λ c κs. search needs) (λ c κs. search needs)
+    (λ c κs. search needs) returns)

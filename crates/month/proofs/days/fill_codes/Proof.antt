@@ -1,5 +1,4 @@
 -- The array's front is the codes of the places before i.
--- Assumes nothing.
 use Prim.Native.Nat.{_-_, _≤_}
 use mathlib.Core.Path.{_≡_, refl, _∙_}
 use native.Mathlib.Omega.{arith}
@@ -39,14 +38,5 @@ returns c =
 
 pub fill-codes-spec : {M : Type 1} → statement M
 fill-codes-spec =
-    tie.close
-    (tie.spec
-    Inv-loop
-    μ-loop
-    loop-holds
-    (λ c κs. search needs)
-    (λ c. search needs)
-    (λ c. search needs)
-    (λ c. search needs)
-    loop-again
-    returns)
+    tie.close (tie.spec Inv-loop μ-loop loop-holds (λ c κs. search needs) (λ c. search needs) (λ c. search needs)
+    (λ c. search needs) loop-again returns)

@@ -1,5 +1,4 @@
 -- The walk has met no number above the limit before place i, so the search from i has the same answer as from the first.
--- Assumes nothing.
 use Prim.Native.Nat.{ℕ, _+_, _-_, _≤_, _<_}
 use mathlib.Core.Bool.{Bool, true, false}
 use mathlib.Core.Path.{_≡_, sym, _∙_}
@@ -45,14 +44,5 @@ returns-2 c = ends _ _ (c .before .loop .inv .1) (c .loop-test .left)
 
 pub has-excess-spec : {M : Type 1} → statement M
 has-excess-spec =
-    tie.close
-    (tie.spec
-    Inv-loop
-    μ-loop
-    (λ c. search needs)
-    (λ c κs. search needs)
-    returns
-    (λ c. search needs)
-    (λ c. search needs)
-    loop-again
-    returns-2)
+    tie.close (tie.spec Inv-loop μ-loop (λ c. search needs) (λ c κs. search needs) returns (λ c. search needs) (λ c. search needs)
+    loop-again returns-2)

@@ -1,6 +1,5 @@
 -- The verdict on the sums of the counted days has a code, and the month is exempt where that is no violation; past the last group
 -- nothing is counted.
--- Assumes nothing.
 use Prim.Native.Nat.{ℕ, _≤_}
 use mathlib.Core.Bool.{true, not}
 use mathlib.Core.Path.{_≡_, sym, ap, ap₂, _∙_}
@@ -79,15 +78,5 @@ returns-2 c = ap not (c .is-violation .ensures ∙ ap isViolation (c .before .co
 
 pub is-exempt-spec : {M : Type 1} → statement M
 is-exempt-spec =
-    tie.close
-    (tie.spec
-    (λ c. search needs)
-    returns
-    (λ c κs. search needs)
-    (λ c. search needs)
-    (λ c. search needs)
-    (λ c κs. search needs)
-    (λ c κs. search needs)
-    code-of-requires
-    (λ c κs. search needs)
-    returns-2)
+    tie.close (tie.spec (λ c. search needs) returns (λ c κs. search needs) (λ c. search needs) (λ c. search needs)
+    (λ c κs. search needs) (λ c κs. search needs) code-of-requires (λ c κs. search needs) returns-2)

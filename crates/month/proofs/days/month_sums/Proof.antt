@@ -1,5 +1,4 @@
 -- The sums are those of the days so far. A counted day is in effect, so its totals are within the limit, and no sum overflows.
--- Assumes nothing.
 use Prim.Native.Nat.{ℕ, _+_, _-_, _≤_}
 use mathlib.Core.Bool.{true}
 use mathlib.Core.Path.{_≡_, refl}
@@ -53,17 +52,5 @@ returns c =
 
 pub month-sums-spec : {M : Type 1} → statement M
 month-sums-spec =
-    tie.close
-    (tie.spec
-    Inv-loop
-    μ-loop
-    loop-holds
-    (λ c. search needs)
-    (λ c κs. search needs)
-    (λ c. search needs)
-    (λ c κs. search needs)
-    with-cell-requires
-    (λ c. search needs)
-    (λ c. search needs)
-    loop-again
-    returns)
+    tie.close (tie.spec Inv-loop μ-loop loop-holds (λ c. search needs) (λ c κs. search needs) (λ c. search needs)
+    (λ c κs. search needs) with-cell-requires (λ c. search needs) (λ c. search needs) loop-again returns)

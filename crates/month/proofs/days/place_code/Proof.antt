@@ -1,5 +1,4 @@
 -- Past the last group and on a day that is not in effect the code is 0; elsewhere the verdict on the cell has the place's code.
--- Assumes nothing.
 use Prim.Native.Nat.{_%_}
 use mathlib.Core.Bool.{_&&_}
 use mathlib.Core.Path.{_≡_, ap, ap₂, _∙_}
@@ -52,17 +51,6 @@ returns-2 c = c .code-of .ensures ∙ is-code (c .before)
 
 pub place-code-spec : {M : Type 1} → statement M
 place-code-spec =
-    tie.close
-    (tie.spec
-    (λ c. search needs)
-    (λ c. search needs)
-    (λ c. search needs)
-    (λ c κs. search needs)
-    returns
-    (λ c κs. search needs)
-    (λ c. search needs)
-    (λ c. search needs)
-    (λ c κs. search needs)
-    (λ c κs. search needs)
-    code-of-requires
+    tie.close (tie.spec (λ c. search needs) (λ c. search needs) (λ c. search needs) (λ c κs. search needs) returns
+    (λ c κs. search needs) (λ c. search needs) (λ c. search needs) (λ c κs. search needs) (λ c κs. search needs) code-of-requires
     returns-2)

@@ -1,5 +1,4 @@
 -- The day is added where it is counted, and only then need it be within the limit.
--- Assumes nothing.
 use borrow.Author.Needs.{needs}
 use Rattle.month.proofs.days.with_cell.Statement.{statement}
 use Rattle.month.proofs.days.with_cell.Tie as tie

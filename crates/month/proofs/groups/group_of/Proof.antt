@@ -1,5 +1,4 @@
 -- The array holds where group g stands.
--- Assumes nothing.
 use mathlib.Core.Path.{_≡_}
 use lib.ListN.{getD}
 use borrow.Author.Needs.{needs}

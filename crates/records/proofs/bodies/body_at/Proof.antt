@@ -1,5 +1,4 @@
 -- A record past the end, or shorter than its own head, has no body; one that runs past the end has the bytes that are there.
--- Assumes nothing.
 use native.Mathlib.Omega.{arith}
 use denote.Ref.{now}
 use borrow.Author.Needs.{needs}
@@ -24,25 +23,7 @@ returns-5 c = rw (body-length, c .before .before .before .u16-at .ensures)
 
 pub body-at-spec : {M : Type 1} → statement M
 body-at-spec =
-    tie.close
-    (tie.spec
-    (λ c. search needs)
-    returns
-    (λ c. search needs)
-    (λ c. search needs)
-    returns-2
-    (λ c κs. search needs)
-    (λ c. search needs)
-    (λ c. search needs)
-    returns-3
-    (λ c. search needs)
-    (λ c. search needs)
-    (λ c. search needs)
-    (λ c. search needs)
-    (λ c. search needs)
-    returns-4
-    (λ c. search needs)
-    (λ c. search needs)
-    (λ c. search needs)
-    (λ c. search needs)
-    returns-5)
+    tie.close (tie.spec (λ c. search needs) returns (λ c. search needs) (λ c. search needs) returns-2 (λ c κs. search needs)
+    (λ c. search needs) (λ c. search needs) returns-3 (λ c. search needs) (λ c. search needs) (λ c. search needs)
+    (λ c. search needs) (λ c. search needs) returns-4 (λ c. search needs) (λ c. search needs) (λ c. search needs)
+    (λ c. search needs) returns-5)

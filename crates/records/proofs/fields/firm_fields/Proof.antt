@@ -1,5 +1,4 @@
 -- Each letter is read at its offset.
--- Assumes nothing.
 use borrow.Author.Needs.{needs}
 use Rattle.records.specs.Fields.{firmFields}
 use Rattle.records.proofs.fields.firm_fields.Statement.{statement}

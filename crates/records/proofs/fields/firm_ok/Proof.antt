@@ -1,5 +1,4 @@
 -- The tests are the definition's, of the same letters.
--- Assumes nothing.
 use borrow.Author.Needs.{needs}
 use Rattle.wire.proofs.Choose.{and-all}
 use Rattle.records.specs.Fields.{firmOk}

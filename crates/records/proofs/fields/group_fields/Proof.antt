@@ -1,5 +1,4 @@
 -- Each field is read at its offset.
--- Assumes nothing.
 use borrow.Author.Needs.{needs}
 use Rattle.records.specs.Fields.{groupFields}
 use Rattle.records.proofs.fields.group_fields.Statement.{statement}
@@ -11,13 +10,5 @@ returns c = cc
 
 pub group-fields-spec : {M : Type 1} → statement M
 group-fields-spec =
-    tie.close
-    (tie.spec
-    (λ c κs. search needs)
-    (λ c κs. search needs)
-    (λ c κs. search needs)
-    (λ c κs. search needs)
-    (λ c κs. search needs)
-    (λ c κs. search needs)
-    (λ c κs. search needs)
-    returns)
+    tie.close (tie.spec (λ c κs. search needs) (λ c κs. search needs) (λ c κs. search needs) (λ c κs. search needs)
+    (λ c κs. search needs) (λ c κs. search needs) (λ c κs. search needs) returns)

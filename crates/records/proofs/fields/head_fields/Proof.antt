@@ -1,5 +1,4 @@
 -- Each field is read at its offset.
--- Assumes nothing.
 use borrow.Author.Needs.{needs}
 use Rattle.records.specs.Fields.{headFields}
 use Rattle.records.proofs.fields.head_fields.Statement.{statement}

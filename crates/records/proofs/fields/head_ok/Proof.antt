@@ -1,5 +1,4 @@
 -- The two tests are the definition's. A month has at most 31 days, so the shift by its days is in range.
--- Assumes nothing.
 use native.Mathlib.Omega.{arith}
 use borrow.Author.Needs.{needs}
 use Rattle.wire.proofs.Choose.{and-all}

@@ -1,5 +1,4 @@
 -- The two ranges are the definition's.
--- Assumes nothing.
 use borrow.Author.Needs.{needs}
 use Rattle.records.specs.Fields.{isLetter}
 use Rattle.records.proofs.fields.is_letter.Statement.{statement}

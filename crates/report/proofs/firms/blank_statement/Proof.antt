@@ -1,5 +1,4 @@
 -- The array is that many zeros.
--- Assumes nothing.
 use mathlib.Core.Path.{refl}
 use Rattle.report.specs.Report.{zeros}
 use Rattle.report.proofs.firms.blank_statement.Statement.{statement}

@@ -1,5 +1,4 @@
 -- The letters are those of the firm's record.
--- Assumes nothing.
 use borrow.Author.Needs.{needs}
 use Rattle.report.proofs.firms.code_of.Statement.{statement}
 use Rattle.report.proofs.firms.code_of.Tie as tie

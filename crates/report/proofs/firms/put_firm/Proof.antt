@@ -1,5 +1,4 @@
 -- The statement goes into an output that is never too short for it, and its answer says whether its lines are written or a number of refusal.
--- Assumes nothing.
 use Prim.Native.Nat.{ℕ, _≤_}
 use mathlib.Core.List.{List}
 use mathlib.Core.Path.{_≡_}
@@ -64,20 +63,6 @@ returns-2 c =
 
 pub put-firm-spec : {M : Type 1} → statement M
 put-firm-spec =
-    tie.close
-    (tie.spec
-    (λ c. search needs)
-    (λ c. search needs)
-    (λ c. search needs)
-    (λ c. search needs)
-    (λ c. search needs)
-    (λ c. search needs)
-    (λ c. search needs)
-    (λ c. search needs)
-    (λ c. search needs)
-    (λ c. search needs)
-    put-statement-requires
-    (λ c. search needs)
-    returns
-    (λ c. search needs)
-    returns-2)
+    tie.close (tie.spec (λ c. search needs) (λ c. search needs) (λ c. search needs) (λ c. search needs) (λ c. search needs)
+    (λ c. search needs) (λ c. search needs) (λ c. search needs) (λ c. search needs) (λ c. search needs) put-statement-requires
+    (λ c. search needs) returns (λ c. search needs) returns-2)

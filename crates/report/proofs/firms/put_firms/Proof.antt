@@ -1,5 +1,4 @@
 -- Before each turn the lines of the firms so far are written, and the turn writes those of the next.
--- Assumes nothing.
 use Prim.Native.Nat.{_-_, _≤_}
 use mathlib.Core.Path.{_≡_}
 use native.Mathlib.Omega.{arith}
@@ -45,15 +44,5 @@ returns c =
 
 pub put-firms-spec : {M : Type 1} → statement M
 put-firms-spec =
-    tie.close
-    (tie.spec
-    Inv-loop
-    μ-loop
-    (λ c. search needs)
-    loop-holds
-    (λ c κs. search needs)
-    (λ c. search needs)
-    loop-less
-    loop-again
-    same-length
-    returns)
+    tie.close (tie.spec Inv-loop μ-loop (λ c. search needs) loop-holds (λ c κs. search needs) (λ c. search needs) loop-less
+    loop-again same-length returns)

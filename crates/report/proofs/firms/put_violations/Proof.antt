@@ -1,5 +1,4 @@
 -- Before each turn the lines of the violations so far are written, and the turn writes the next one, from the part of the statement that starts at it.
--- Assumes nothing.
 use Prim.Native.Nat.{_-_, _*_, _≤_}
 use mathlib.Core.Path.{_≡_}
 use native.Mathlib.Omega.{arith}
@@ -51,18 +50,5 @@ returns c =
 
 pub put-violations-spec : {M : Type 1} → statement M
 put-violations-spec =
-    tie.close
-    (tie.spec
-    Inv-loop
-    μ-loop
-    loop-holds
-    (λ c. search needs)
-    sub-put-violation
-    (λ c. search needs)
-    (λ c. search needs)
-    (λ c κs. search needs)
-    (λ c. search needs)
-    loop-less
-    loop-again
-    same-length
-    returns)
+    tie.close (tie.spec Inv-loop μ-loop loop-holds (λ c. search needs) sub-put-violation (λ c. search needs) (λ c. search needs)
+    (λ c κs. search needs) (λ c. search needs) loop-less loop-again same-length returns)

@@ -1,5 +1,4 @@
 -- The two tests are those of the definition; the kind is read at two.
--- Assumes nothing.
 use borrow.Author.Needs.{needs}
 use Rattle.report.proofs.input.is_activity.Statement.{statement}
 use Rattle.report.proofs.input.is_activity.Tie as tie

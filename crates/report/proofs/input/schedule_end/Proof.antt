@@ -1,6 +1,5 @@
 -- The schedule's end lies as far past `at` as the schedule of the bytes that are left is long. An activity record, or the input's end, leaves none;
 -- any other record moves both by its length, in bounds.
--- Assumes nothing.
 use Prim.Native.Nat.{ℕ, _+_, _-_, _≤_, _<_}
 use mathlib.Core.List.{List}
 use mathlib.Core.Path.{_≡_, sym, _∙_, ap}
@@ -78,22 +77,6 @@ returns-2 c =
 
 pub schedule-end-spec : {M : Type 1} → statement M
 schedule-end-spec =
-    tie.close
-    (tie.spec
-    Inv-loop
-    μ-loop
-    loop-holds
-    (λ c. search needs)
-    (λ c. search needs)
-    (λ c. search needs)
-    (λ c κs. search needs)
-    add-is-activity
-    (λ c. search needs)
-    (λ c. search needs)
-    part-is-activity-end
-    (λ c κs. search needs)
-    add-at
-    loop-less
-    loop-again
-    returns
-    returns-2)
+    tie.close (tie.spec Inv-loop μ-loop loop-holds (λ c. search needs) (λ c. search needs) (λ c. search needs)
+    (λ c κs. search needs) add-is-activity (λ c. search needs) (λ c. search needs) part-is-activity-end (λ c κs. search needs)
+    add-at loop-less loop-again returns returns-2)

@@ -1,5 +1,4 @@
 -- Each turn posts the record that is cut next, writes its line if it is refused, and goes on after it; at the end nothing is left to cut.
--- Assumes nothing.
 use Prim.Native.Nat.{_-_, _+_}
 use mathlib.Core.Path.{_≡_}
 use native.Mathlib.Omega.{arith}
@@ -75,23 +74,6 @@ returns c = posting-all _ _ _ _ _ (c .before .loop .inv) (c .loop-test .left)
 
 pub put-posts-spec : {M : Type 1} → statement M
 put-posts-spec =
-    tie.close
-    (tie.spec
-    Inv-loop
-    μ-loop
-    loop-holds
-    sub-first-len
-    (λ c. search needs)
-    (λ c. search needs)
-    (λ c κs. search needs)
-    add-put-post
-    (λ c. search needs)
-    (λ c. search needs)
-    part-put-post-end
-    (λ c κs. search needs)
-    add-from
-    loop-less
-    loop-again
-    same-length
-    same-length-2
-    returns)
+    tie.close (tie.spec Inv-loop μ-loop loop-holds sub-first-len (λ c. search needs) (λ c. search needs) (λ c κs. search needs)
+    add-put-post (λ c. search needs) (λ c. search needs) part-put-post-end (λ c κs. search needs) add-from loop-less loop-again
+    same-length same-length-2 returns)

@@ -1,5 +1,4 @@
 -- The first part of the table answers where it has a cause; where it has none, the second does.
--- Assumes nothing.
 use Prim.Native.Nat.{_-_}
 use mathlib.Core.Path.{refl, sym, _∙_}
 use native.Mathlib.Omega.{arith}

@@ -1,5 +1,4 @@
 -- The search finds a firm exactly where one is listed.
--- Assumes nothing.
 use mathlib.Core.Path.{sym, _∙_, ap}
 use borrow.Author.Needs.{needs}
 use Rattle.lookup.specs.Lookup.{firmMeaning, firmFound}

@@ -1,5 +1,4 @@
 -- Each kind has its row of the definition, with the code that its body holds.
--- Assumes nothing.
 use borrow.Author.Needs.{needs}
 use Rattle.schedule.specs.Check.{isRepeated}
 use Rattle.schedule.proofs.scan.is_repeated.Statement.{statement}
@@ -23,16 +22,5 @@ returns-4 c = rw (c .enum-told4 .given .1)
 
 pub is-repeated-spec : {M : Type 1} → statement M
 is-repeated-spec =
-    tie.close
-    (tie.spec
-    (λ c. search needs)
-    (λ c. search needs)
-    (λ c κs. search needs)
-    (λ c κs. search needs)
-    (λ c. search needs)
-    (λ c κs. search needs)
-    (λ c. search needs)
-    returns
-    returns-2
-    returns-3
-    returns-4)
+    tie.close (tie.spec (λ c. search needs) (λ c. search needs) (λ c κs. search needs) (λ c κs. search needs) (λ c. search needs)
+    (λ c κs. search needs) (λ c. search needs) returns returns-2 returns-3 returns-4)

@@ -1,5 +1,4 @@
 -- Each return is the first row of the table whose number it is.
--- Assumes nothing.
 use mathlib.Core.Path.{sym}
 use borrow.Author.Tests.{eq-eqb, ne-eqb}
 use Rattle.wire.proofs.Choose.{chosen, here, next, done}

@@ -1,5 +1,4 @@
 -- Each part of the next place is the definition's; the bounds on the place keep its sum in range.
--- Assumes nothing.
 use borrow.Author.Needs.{needs}
 use Rattle.schedule.proofs.scan.next_record.Statement.{statement}
 use Rattle.schedule.proofs.scan.next_record.Tie as tie
@@ -11,14 +10,5 @@ returns c =
 
 pub next-record-spec : {M : Type 1} → statement M
 next-record-spec =
-    tie.close
-    (tie.spec
-    (λ c κs. search needs)
-    (λ c. search needs)
-    (λ c. search needs)
-    (λ c. search needs)
-    (λ c κs. search needs)
-    (λ c κs. search needs)
-    (λ c κs. search needs)
-    (λ c κs. search needs)
-    returns)
+    tie.close (tie.spec (λ c κs. search needs) (λ c. search needs) (λ c. search needs) (λ c. search needs) (λ c κs. search needs)
+    (λ c κs. search needs) (λ c κs. search needs) (λ c κs. search needs) returns)

@@ -1,5 +1,4 @@
 -- Four stores in a row put the numbers' bytes in place.
--- Assumes nothing.
 use Prim.Native.Nat.{suc, _+_}
 use mathlib.Core.List.{_++_}
 use mathlib.Core.Path.{_≡_}
@@ -21,18 +20,6 @@ returns c =
 
 pub put-u16s-spec : {M : Type 1} → statement M
 put-u16s-spec =
-    tie.close
-    (tie.spec
-    (λ c. search needs)
-    (λ c. search needs)
-    (λ c. search needs)
-    (λ c. search needs)
-    (λ c. simp length-set (omega arith))
-    (λ c. search needs)
-    (λ c. search needs)
-    (λ c. simp length-set (omega arith))
-    (λ c. search needs)
-    (λ c. search needs)
-    (λ c. simp length-set (omega arith))
-    (λ c. search needs)
-    returns)
+    tie.close (tie.spec (λ c. search needs) (λ c. search needs) (λ c. search needs) (λ c. search needs)
+    (λ c. simp length-set (omega arith)) (λ c. search needs) (λ c. search needs) (λ c. simp length-set (omega arith))
+    (λ c. search needs) (λ c. search needs) (λ c. simp length-set (omega arith)) (λ c. search needs) returns)

@@ -1,5 +1,4 @@
 -- The mark's word and the dollars, each after the last.
--- Assumes nothing.
 use borrow.Author.Needs.{needs}
 use Rattle.text.specs.Lines.{charge}
 use Rattle.text.proofs.Writing.{wrote-length, _then_}
@@ -19,14 +18,5 @@ returns c =
 
 pub put-charge-spec : {M : Type 1} → statement M
 put-charge-spec =
-    tie.close
-    (tie.spec
-    (λ c. search needs)
-    (λ c. search needs)
-    (λ c. search needs)
-    (λ c. search needs)
-    (λ c. search needs)
-    (λ c. search needs)
-    (λ c. search needs)
-    (λ c. wrote-length (returns c))
-    returns)
+    tie.close (tie.spec (λ c. search needs) (λ c. search needs) (λ c. search needs) (λ c. search needs) (λ c. search needs)
+    (λ c. search needs) (λ c. search needs) (λ c. wrote-length (returns c)) returns)

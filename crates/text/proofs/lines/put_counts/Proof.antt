@@ -1,5 +1,4 @@
 -- The counts in the record's order, each after the last.
--- Assumes nothing.
 use borrow.Author.Needs.{needs}
 use Rattle.text.specs.Lines.{counts}
 use Rattle.text.proofs.Writing.{wrote-length, _then_}
@@ -34,22 +33,6 @@ returns c =
 
 pub put-counts-spec : {M : Type 1} → statement M
 put-counts-spec =
-    tie.close
-    (tie.spec
-    (λ c. search needs)
-    (λ c. search needs)
-    (λ c. search needs)
-    (λ c. search needs)
-    (λ c. search needs)
-    (λ c. search needs)
-    (λ c. search needs)
-    (λ c. search needs)
-    (λ c. search needs)
-    (λ c. search needs)
-    (λ c. search needs)
-    (λ c. search needs)
-    (λ c. search needs)
-    (λ c. search needs)
-    (λ c. search needs)
-    (λ c. wrote-length (returns c))
-    returns)
+    tie.close (tie.spec (λ c. search needs) (λ c. search needs) (λ c. search needs) (λ c. search needs) (λ c. search needs)
+    (λ c. search needs) (λ c. search needs) (λ c. search needs) (λ c. search needs) (λ c. search needs) (λ c. search needs)
+    (λ c. search needs) (λ c. search needs) (λ c. search needs) (λ c. search needs) (λ c. wrote-length (returns c)) returns)

@@ -1,5 +1,4 @@
 -- Five texts, each after the last.
--- Assumes nothing.
 use borrow.Author.Needs.{needs}
 use Rattle.text.specs.Lines.{refusedAt}
 use Rattle.text.proofs.Writing.{wrote-length, _then_}
@@ -18,15 +17,5 @@ returns c =
 
 pub put-refused-at-spec : {M : Type 1} → statement M
 put-refused-at-spec =
-    tie.close
-    (tie.spec
-    (λ c. search needs)
-    (λ c. search needs)
-    (λ c. search needs)
-    (λ c. search needs)
-    (λ c. search needs)
-    (λ c. search needs)
-    (λ c. search needs)
-    (λ c. search needs)
-    (λ c. wrote-length (returns c))
-    returns)
+    tie.close (tie.spec (λ c. search needs) (λ c. search needs) (λ c. search needs) (λ c. search needs) (λ c. search needs)
+    (λ c. search needs) (λ c. search needs) (λ c. search needs) (λ c. wrote-length (returns c)) returns)

@@ -1,5 +1,4 @@
 -- The fields of the totals in the record's order, each after the last.
--- Assumes nothing.
 use borrow.Author.Needs.{needs}
 use Rattle.text.specs.Lines.{totalsLine}
 use Rattle.text.proofs.Writing.{wrote-length, _then_}
@@ -26,18 +25,6 @@ returns c =
 
 pub put-totals-spec : {M : Type 1} → statement M
 put-totals-spec =
-    tie.close
-    (tie.spec
-    (λ c. search needs)
-    (λ c. search needs)
-    (λ c. search needs)
-    (λ c. search needs)
-    (λ c. search needs)
-    (λ c. search needs)
-    (λ c. search needs)
-    (λ c. search needs)
-    (λ c. search needs)
-    (λ c. search needs)
-    (λ c. search needs)
-    (λ c. wrote-length (returns c))
-    returns)
+    tie.close (tie.spec (λ c. search needs) (λ c. search needs) (λ c. search needs) (λ c. search needs) (λ c. search needs)
+    (λ c. search needs) (λ c. search needs) (λ c. search needs) (λ c. search needs) (λ c. search needs) (λ c. search needs)
+    (λ c. wrote-length (returns c)) returns)

@@ -1,5 +1,4 @@
 -- The fields of the line in the statement's order, each after the last.
--- Assumes nothing.
 use borrow.Author.Needs.{needs}
 use Rattle.text.specs.Lines.{violationLine}
 use Rattle.text.proofs.Writing.{wrote-length, _then_}
@@ -28,21 +27,6 @@ returns c =
 
 pub put-violation-spec : {M : Type 1} → statement M
 put-violation-spec =
-    tie.close
-    (tie.spec
-    (λ c. search needs)
-    (λ c. search needs)
-    (λ c. search needs)
-    (λ c. search needs)
-    (λ c. search needs)
-    (λ c. search needs)
-    (λ c. search needs)
-    (λ c. search needs)
-    (λ c. search needs)
-    (λ c. search needs)
-    (λ c. search needs)
-    (λ c. search needs)
-    (λ c. search needs)
-    (λ c. search needs)
-    (λ c. wrote-length (returns c))
-    returns)
+    tie.close (tie.spec (λ c. search needs) (λ c. search needs) (λ c. search needs) (λ c. search needs) (λ c. search needs)
+    (λ c. search needs) (λ c. search needs) (λ c. search needs) (λ c. search needs) (λ c. search needs) (λ c. search needs)
+    (λ c. search needs) (λ c. search needs) (λ c. search needs) (λ c. wrote-length (returns c)) returns)

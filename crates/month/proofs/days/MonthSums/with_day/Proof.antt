@@ -1,5 +1,4 @@
 -- The sums are of at most 30 days and the day is within the limit, so nothing overflows.
--- Assumes nothing.
 use native.Mathlib.Omega.{arith}
 use borrow.Author.Needs.{needs}
 use Rattle.rules.proofs.Codes.{fitting}

@@ -1,5 +1,4 @@
 -- The test is the definition's.
--- Assumes nothing.
 use borrow.Author.Tests.{eq-eqb, ne-eqb}
 use Rattle.month.proofs.marks.Left.count_in.Statement.{statement}
 use Rattle.month.proofs.marks.Left.count_in.Tie as tie

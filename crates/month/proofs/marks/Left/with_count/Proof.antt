@@ -1,5 +1,4 @@
 -- A grouping is at most one of 1 and 2, so at most one counter grows.
--- Assumes nothing.
 use mathlib.Core.Path.{refl, sym}
 use native.Mathlib.Nat.{add-zero}
 use borrow.Author.Needs.{needs}
