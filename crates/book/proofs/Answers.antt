@@ -13,7 +13,7 @@ use Rattle.wire.proofs.Choose.{passed, choose-first, choose-second}
 use Rattle.rules.specs.Verdict.{fits}
 use Rattle.schedule.specs.Outcome.{refused, good}
 use Rattle.lookup.specs.declared.Layout.{Layout}
-use Rattle.book.specs.Activity.{totalsOf}
+use Rattle.activity.specs.Activity.{totalsOf}
 use Rattle.book.specs.Book.{cellAt, withCell, grown, checkBook}
 use Rattle.book.specs.Post.{indexOf, recordCauses, limitCause, postCause, counted, PostIs}
 use Rattle.book.specs.Filing.{AddIs, Stopped, Filable, FiledIs}

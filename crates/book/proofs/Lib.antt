@@ -1,6 +1,4 @@
 pub mod Checked
 pub mod Places
 pub mod Admitted
-pub mod Accepted
-pub mod Laws
 pub mod Answers

@@ -5,29 +5,21 @@ use Prim.Native.Nat.{ℕ}
 use mathlib.Core.Bool.{Bool, cond, not, _&&_}
 use mathlib.Core.List.{List, [], _∷_, _++_}
 use mathlib.Core.Path.{_≡_}
-use lib.Dec.{ltb, eqb}
+use lib.Dec.{eqb}
 use lib.ListN.{length}
 use Rattle.wire.specs.Choose.{choose, within}
 use Rattle.rules.specs.Verdict.{fits}
 use Rattle.calendar.specs.Calendar.{daysIn, inEffect}
-use Rattle.records.specs.Bodies.{lengthAt, kindAt, bodyAt}
+use Rattle.records.specs.Bodies.{bodyAt}
 use Rattle.lookup.specs.Lookup.{groupStart, groupPlace, groupListed, firmPlace, firmListed}
 use Rattle.contracts.specs.Counted.{contractListed, contractCounted}
 use Rattle.schedule.specs.Outcome.{Outcome, refused, good, follow, given}
 use Rattle.lookup.specs.declared.Layout.{Layout}
-use Rattle.book.specs.Activity.{activityKind, activityLength, firmCode, day, groupFirst, groupSecond, contractOf, totalsOf}
+use Rattle.activity.specs.Activity.{firmCode, day, groupFirst, groupSecond, contractOf, totalsOf, formCauses}
 use Rattle.book.specs.Book.{index, cellAt, withCell, grown, checkBook}
 use Rattle.book.specs.declared.cells.Cell.{Cell}
 use Rattle.book.specs.declared.posting.Posted.{Posted}
 use Rattle.book.specs.declared.posting.Posted.the-variants as posted
-
--- Numbers of refusal, 11 to 13, of the record alone: under four bytes; kind not 4; length field or slice not 44
-abbrev pub formCauses : (R : List ℕ) → List (Bool × ℕ)
-formCauses R =
-    (ltb (length R) 4, 11)
-    ∷ (not (eqb (kindAt R 0) activityKind), 12)
-    ∷ (not (eqb (lengthAt R 0) activityLength && eqb (length R) activityLength), 13)
-    ∷ []
 
 module _ (S : List ℕ) (l : Layout) where
   -- the place of the record's firm, from 0; past the last, where it is unlisted

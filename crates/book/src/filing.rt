@@ -1,12 +1,11 @@
 // How the schedule takes a record: refused, outside, or at a place of the book.
-use crate::activity::ACTIVITY_KIND;
-use crate::activity::CONTRACT;
-use crate::activity::DAY;
-use crate::activity::FIRM;
-use crate::activity::GROUP_FIRST;
-use crate::activity::GROUP_SECOND;
-use crate::activity::LENGTH;
 use crate::cells::cell_index;
+use activity::CONTRACT;
+use activity::DAY;
+use activity::FIRM;
+use activity::GROUP_FIRST;
+use activity::GROUP_SECOND;
+use activity::form_cause;
 use calendar::days_in;
 use calendar::in_effect;
 use contracts::Status;
@@ -22,10 +21,9 @@ use wire::u16_at;
 ghost use mathlib.Core.Path.{_≡_};
 ghost use Prim.Native.Nat.{_≤_};
 ghost use lib.ListN.{length, drop};
-ghost use Rattle.wire.specs.Choose.{choose};
 ghost use Rattle.records.specs.Bodies.{bodyAt};
 ghost use Rattle.contracts.specs.Counted.{statusMeaning, statusOf};
-ghost use Rattle.book.specs.Post.{formCauses, listCauses, recordCauses};
+ghost use Rattle.book.specs.Post.{listCauses, recordCauses};
 ghost use Rattle.book.specs.Filing.{FoundIs, FiledIs};
 
 // A refusal's number, or outside, or the place of the record's cell in the book.
@@ -33,22 +31,6 @@ pub(crate) enum Filed {
     Refused(u8),
     Outside,
     At(usize),
-}
-
-// The first of 11 to 13 that refuses a record, 0 where none does.
-fn form_cause(record: &[u8]) -> u8
-    ensures { λ r. ⌜ r ≡ choose (formCauses (now («record» .entry))) 0 ⌝ }
-{
-    if record.len() < 4 {
-        return 11;
-    }
-    if u16_at(record, 2) != ACTIVITY_KIND {
-        return 12;
-    }
-    if (u16_at(record, 0) as usize == LENGTH) & (record.len() == LENGTH) {
-        return 0;
-    }
-    13
 }
 
 // How the group whose record stands at a place takes a contract.

@@ -1,17 +1,14 @@
 // The book of posts: opening it, and posting a record of activity to it.
-mod activity;
 mod cells;
 mod filing;
 mod opening;
 mod posting;
 
-pub use activity::ACTIVITY_KIND;
 pub use cells::Cell;
 pub use cells::PER_FIRM_GROUP;
 pub use cells::check_book;
 pub use cells::totals_in;
 pub use opening::Opened;
-pub use opening::fill;
 pub use opening::open;
 pub use posting::Posted;
 pub use posting::post;

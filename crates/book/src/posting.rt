@@ -1,11 +1,11 @@
 // Posting a record to the book.
-use crate::activity::totals_of;
 use crate::cells::Cell;
 use crate::cells::cell_at;
 use crate::cells::check_book;
 use crate::cells::store_cell;
 use crate::filing::Filed;
 use crate::filing::file;
+use activity::totals_of;
 use lookup::Layout;
 use rules::LIMIT;
 use rules::Totals;

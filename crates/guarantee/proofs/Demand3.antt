@@ -30,9 +30,9 @@ use Rattle.schedule.specs.Check.{checkOf}
 use Rattle.lookup.specs.declared.Layout.{Layout}
 use Rattle.schedule.proofs.Good.{refused-good}
 use Rattle.book.specs.Book.{size, checkBook, openAnswer, openBook}
-use Rattle.book.specs.Accepted.{accepted, own, posted}
+use Rattle.accepted.specs.Accepted.{accepted, own, posted}
 use Rattle.book.proofs.Checked.{Sized, sized, book-good}
-use Rattle.book.proofs.Laws.{laws as bookLaws}
+use Rattle.accepted.proofs.Laws.{laws as bookLaws}
 use Rattle.month.specs.Month.{terms, monthOf, anyExcess, firmTotals, firmMonth, monthAnswer}
 use Rattle.month.specs.Parts.{ListedAt, Grouped}
 use Rattle.month.proofs.Answers.{is-judged}

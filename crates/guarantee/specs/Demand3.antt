@@ -17,7 +17,7 @@ use Rattle.schedule.specs.Check.{nothing, checkOf}
 use Rattle.lookup.specs.InForce.{rulesOf}
 use Rattle.lookup.specs.declared.Layout.{Layout}
 use Rattle.book.specs.Book.{openAnswer, openBook}
-use Rattle.book.specs.Accepted.{accepted, own, posted}
+use Rattle.accepted.specs.Accepted.{accepted, own, posted}
 use Rattle.month.specs.Month.{terms, monthOf}
 use Rattle.statement.specs.Layout.{lineSize, totalsSize, bothTotals, totalsKind, totalsGrouping, totalsZero, totalsViolations, totalsMonthly, totalsAutomatic, totalsBilled, totalsDollars}
 use Rattle.statement.specs.Statement.{statementAnswer, statementOutput}

@@ -19,11 +19,11 @@ use Rattle.contracts.specs.Counted.{contractListed, contractCounted, inFront, i
 use Rattle.schedule.specs.Outcome.{Outcome, good}
 use Rattle.lookup.specs.Lookup.{groupStart, groupIs, firmIs, groupListed, firmListed}
 use Rattle.schedule.specs.Check.{checkOf, scan, ending, withRecord, cause, isRepeated, fieldsOk, isFull, lengthOk, isDue, kindOf}
-use Rattle.book.specs.Activity.{totalsOf}
+use Rattle.activity.specs.Activity.{totalsOf}
 use Rattle.book.specs.Book.{perFirmGroup, checkBook, openBook}
 use Rattle.book.specs.Post.{postCause}
-use Rattle.book.specs.Accepted.{acceptedCells, posted}
-use Rattle.book.specs.Samples.{head, group, ABC, firm, activity}
+use Rattle.accepted.specs.Accepted.{acceptedCells, posted}
+use Rattle.accepted.specs.Samples.{head, group, ABC, firm, activity}
 use Rattle.month.specs.Month.{anyExcess, monthAnswer}
 use Rattle.statement.specs.Lines.{lineAt, tally, shown}
 use Rattle.statement.specs.Statement.{statementAnswer, statementOutput}

@@ -1,5 +1,5 @@
 -- Where the groups and firms of a schedule stand, and which of them has a code (document 01, "Records"). S is the schedule, l what it holds.
--- `Layout` is the struct of src/lookup.rt: month, days not in effect, how many groups and firms, and where the first of each stands.
+-- `Layout` is the struct of src/lib.rt: month, days not in effect, how many groups and firms, and where the first of each stands.
 -- Assumes nothing.
 use Prim.Native.Nat.{ℕ, zero, suc, _+_, _*_}
 use mathlib.Core.Bool.{Bool, cond}

@@ -34,7 +34,7 @@ fn main() {
         Reported::Whole(bytes) => {
             io::write_all(STDOUT_FILENO, &out[..bytes]);
         }
-        // Never, for `report`'s output is this large (its specs/Laws.antt).
+        // Never, for no report is longer than this output (report_laws).
         Reported::Cut(bytes) => {
             io::write_all(STDOUT_FILENO, &out[..bytes]);
         }

@@ -11,7 +11,7 @@ use Rattle.wire.specs.Lists.{table}
 use Rattle.calendar.specs.Calendar.{daysIn, inEffect}
 use Rattle.rules.specs.Verdict.{fits}
 use Rattle.rules.specs.Month.{Terms, Cells, exempt}
-use Rattle.rules.specs.Marks.{places, dayOf, groupOf, Judged, judged, mark}
+use Rattle.rules.specs.Marks.{mostGroups, places, dayOf, groupOf, Judged, judged, mark}
 use Rattle.schedule.specs.Outcome.{Outcome, refused, good, follow, given}
 use Rattle.lookup.specs.Lookup.{groupStart, groupAt, firmListed, firmPlace}
 use Rattle.schedule.specs.Check.{meaning}
@@ -64,21 +64,21 @@ monthAnswer S B C =
 
 -- where the first 32 groups stand; past the last group the places mean nothing
 abbrev pub startsOf : (S : List ℕ) → Layout → List ℕ
-startsOf S l = table 32 (groupStart S (l .first))
+startsOf S l = table mostGroups (groupStart S (l .first))
 
 -- the groups' exchange groupings
 abbrev pub groupingsOf : (S : List ℕ) → Layout → List ℕ
-groupingsOf S l = table 32 (λ g. groupAt S l g .grouping)
+groupingsOf S l = table mostGroups (λ g. groupAt S l g .grouping)
 
 -- the groups' exemptions, for the totals c
 abbrev pub exemptsOf : (S : List ℕ) → Layout → Cells → List Bool
-exemptsOf S l c = table 32 (exempt (rulesOf S) (terms S l) c)
+exemptsOf S l c = table mostGroups (exempt (rulesOf S) (terms S l) c)
 
 -- what the call promises: a refusal with empty arrays, or the firm's month, place by place and group by group
 pub record MonthIs (S B C : List ℕ) (r : Month) : Type 0 where
   pub answer : meaning (r .answer) ≡ monthAnswer S B C
-  pub starts : r .starts ≡ given (monthAnswer S B C) (replicate 32 0) (startsOf S)
-  pub groupings : r .groupings ≡ given (monthAnswer S B C) (replicate 32 0) (groupingsOf S)
+  pub starts : r .starts ≡ given (monthAnswer S B C) (replicate mostGroups 0) (startsOf S)
+  pub groupings : r .groupings ≡ given (monthAnswer S B C) (replicate mostGroups 0) (groupingsOf S)
   pub codes : r .codes ≡ given (monthAnswer S B C) (replicate places 0) (λ l. table places (firmMonth S B C l .code))
-  pub exempts : r .exempts ≡ given (monthAnswer S B C) (replicate 32 false) (λ l. exemptsOf S l (firmTotals S B C l))
+  pub exempts : r .exempts ≡ given (monthAnswer S B C) (replicate mostGroups false) (λ l. exemptsOf S l (firmTotals S B C l))
   pub marks : r .marks ≡ given (monthAnswer S B C) (replicate places 0) (λ l. table places (mark (rulesOf S) (firmMonth S B C l)))

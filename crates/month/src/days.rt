@@ -4,6 +4,8 @@ use book::totals_in;
 use calendar::days_in;
 use calendar::in_effect;
 use lookup::Layout;
+use rules::GROUPS;
+use rules::PLACES;
 use rules::Totals;
 use rules::Verdict;
 use rules::days_verdict;
@@ -15,7 +17,7 @@ ghost use Prim.Native.Nat.{_≤_, _<_};
 ghost use Rattle.wire.specs.Lists.{table};
 ghost use Rattle.rules.specs.Verdict.{fits, verdictMeaning};
 ghost use Rattle.rules.specs.Month.{exempt};
-ghost use Rattle.rules.specs.Marks.{codeAt};
+ghost use Rattle.rules.specs.Marks.{mostGroups, places, codeAt};
 ghost use Rattle.lookup.specs.InForce.{rulesOf};
 ghost use Rattle.book.specs.Book.{totalsIn};
 ghost use Rattle.month.specs.Month.{terms, isExcess, anyExcess, startsOf, exemptsOf};
@@ -23,11 +25,11 @@ ghost use Rattle.month.specs.Parts.{Sound, Within, withDay, sumsTo, code
 
 // Whether place i is of a day of the month, and has a number above the limit.
 fn excess_at(l: Layout, book: &[u64], firm: u8, i: usize) -> bool
-    requires { ⌜ i < 992 ⌝ }
+    requires { ⌜ i < places ⌝ }
     ensures { λ r. ⌜ r ≡ isExcess l (totalsIn (l .groups) (now (book .entry)) firm) i ⌝ }
 {
-    let day = (i / 32 + 1) as u8;
-    let t = totals_in(book, l.groups, firm, (i % 32) as u8, day);
+    let day = (i / GROUPS + 1) as u8;
+    let t = totals_in(book, l.groups, firm, (i % GROUPS) as u8, day);
     (day <= days_in(l.month)) & !fits(1, t)
 }
 
@@ -36,7 +38,7 @@ pub(crate) fn has_excess(l: Layout, book: &[u64], firm: u8) -> bool
     ensures { λ r. ⌜ r ≡ anyExcess l (totalsIn (l .groups) (now (book .entry)) firm) ⌝ }
 {
     let mut i: usize = 0;
-    while i < 992 {
+    while i < PLACES {
         if excess_at(l, book, firm, i) {
             return true;
         }
@@ -83,7 +85,7 @@ fn with_cell(sums: MonthSums, counted: bool, t: Totals) -> MonthSums
 
 // The sums of a group of the firm over the month.
 fn month_sums(schedule: &[u8], l: Layout, book: &[u64], firm: u8, group: u8) -> MonthSums
-    requires { ⌜ group < 32 ⌝ }
+    requires { ⌜ group < mostGroups ⌝ }
     requires { ⌜ Sound (now schedule) l (totalsIn (l .groups) (now book) firm) ⌝ }
     ensures { λ r. ⌜ r ≡ sumsTo (terms (now (schedule .entry)) l) (totalsIn (l .groups) (now (book .entry)) firm) group 31 ⌝ }
 {
@@ -121,10 +123,10 @@ fn is_exempt(
     l: Layout,
     book: &[u64],
     firm: u8,
-    starts: &[usize; 32],
+    starts: &[usize; GROUPS],
     g: usize,
 ) -> bool
-    requires { ⌜ g < 32 ⌝ }
+    requires { ⌜ g < mostGroups ⌝ }
     requires { ⌜ now starts ≡ startsOf (now schedule) l ⌝ }
     requires { ⌜ Sound (now schedule) l (totalsIn (l .groups) (now book) firm) ⌝ }
     ensures { λ r. ⌜ r ≡ exempt (rulesOf (now (schedule .entry))) (terms (now (schedule .entry)) l) (totalsIn (l .groups) (now (book .entry)) firm) g ⌝ }
@@ -148,15 +150,15 @@ pub(crate) fn fill_exempts(
     l: Layout,
     book: &[u64],
     firm: u8,
-    starts: &[usize; 32],
-) -> [bool; 32]
+    starts: &[usize; GROUPS],
+) -> [bool; GROUPS]
     requires { ⌜ now starts ≡ startsOf (now schedule) l ⌝ }
     requires { ⌜ Sound (now schedule) l (totalsIn (l .groups) (now book) firm) ⌝ }
     ensures { λ r. ⌜ r ≡ exemptsOf (now (schedule .entry)) l (totalsIn (l .groups) (now (book .entry)) firm) ⌝ }
 {
-    let mut exempts = [false; 32];
+    let mut exempts = [false; GROUPS];
     let mut g: usize = 0;
-    while g < 32 {
+    while g < GROUPS {
         exempts[g] = is_exempt(schedule, l, book, firm, starts, g);
         g += 1;
     }
@@ -169,16 +171,16 @@ fn place_code(
     l: Layout,
     book: &[u64],
     firm: u8,
-    starts: &[usize; 32],
+    starts: &[usize; GROUPS],
     i: usize,
 ) -> u8
-    requires { ⌜ i < 992 ⌝ }
+    requires { ⌜ i < places ⌝ }
     requires { ⌜ now starts ≡ startsOf (now schedule) l ⌝ }
     requires { ⌜ Sound (now schedule) l (totalsIn (l .groups) (now book) firm) ⌝ }
     ensures { λ r. ⌜ r ≡ codeAt (rulesOf (now (schedule .entry))) (terms (now (schedule .entry)) l) (totalsIn (l .groups) (now (book .entry)) firm) i ⌝ }
 {
-    let g = i % 32;
-    let day = (i / 32 + 1) as u8;
+    let g = i % GROUPS;
+    let day = (i / GROUPS + 1) as u8;
     if !((g < (l.groups as usize)) & in_effect(l.month, l.closed, day)) {
         return 0;
     }
@@ -193,15 +195,15 @@ pub(crate) fn fill_codes(
     l: Layout,
     book: &[u64],
     firm: u8,
-    starts: &[usize; 32],
-) -> [u8; 992]
+    starts: &[usize; GROUPS],
+) -> [u8; PLACES]
     requires { ⌜ now starts ≡ startsOf (now schedule) l ⌝ }
     requires { ⌜ Sound (now schedule) l (totalsIn (l .groups) (now book) firm) ⌝ }
-    ensures { λ r. ⌜ r ≡ table 992 (codeAt (rulesOf (now (schedule .entry))) (terms (now (schedule .entry)) l) (totalsIn (l .groups) (now (book .entry)) firm)) ⌝ }
+    ensures { λ r. ⌜ r ≡ table places (codeAt (rulesOf (now (schedule .entry))) (terms (now (schedule .entry)) l) (totalsIn (l .groups) (now (book .entry)) firm)) ⌝ }
 {
-    let mut codes = [0u8; 992];
+    let mut codes = [0u8; PLACES];
     let mut i: usize = 0;
-    while i < 992 {
+    while i < PLACES {
         codes[i] = place_code(schedule, l, book, firm, starts, i);
         i += 1;
     }

@@ -14,6 +14,8 @@ use lookup::Layout;
 use lookup::find_firm;
 use lookup::rules_of;
 use marks::give_marks;
+use rules::GROUPS;
+use rules::PLACES;
 use schedule::Checked;
 ghost use mathlib.Core.Bool.{false};
 ghost use mathlib.Core.Path.{_≡_};
@@ -26,11 +28,11 @@ ghost use Rattle.month.specs.Parts.{ListedAt};
 // by group) its code and its mark; of each group whether it is exempt. After a refusal the arrays hold zeros.
 pub struct Month {
     pub answer: Checked,
-    pub starts: [usize; 32],
-    pub groupings: [u8; 32],
-    pub codes: [u8; 992],
-    pub exempts: [bool; 32],
-    pub marks: [u8; 992],
+    pub starts: [usize; GROUPS],
+    pub groupings: [u8; GROUPS],
+    pub codes: [u8; PLACES],
+    pub exempts: [bool; GROUPS],
+    pub marks: [u8; PLACES],
 }
 
 // The answer of a call that is refused. Schedule, book and code are arguments since the contract speaks of them.
@@ -40,11 +42,11 @@ fn refused_month(number: u8, offset: usize, schedule: &[u8], book: &[u64], code:
 {
     Month {
         answer: Checked::Refused { number, offset },
-        starts: [0; 32],
-        groupings: [0; 32],
-        codes: [0; 992],
-        exempts: [false; 32],
-        marks: [0; 992],
+        starts: [0; GROUPS],
+        groupings: [0; GROUPS],
+        codes: [0; PLACES],
+        exempts: [false; GROUPS],
+        marks: [0; PLACES],
     }
 }
 

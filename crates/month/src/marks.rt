@@ -1,4 +1,6 @@
 // Codes are turned into marks.
+use rules::GROUPS;
+use rules::PLACES;
 use rules::Rules;
 use rules::is_violation;
 use wire::bit;
@@ -70,10 +72,10 @@ impl Left {
 // Turns the codes of the places into marks.
 pub(crate) fn give_marks(
     p: Rules,
-    mut marks: [u8; 992],
-    exempts: &[bool; 32],
-    groupings: &[u8; 32],
-) -> [u8; 992]
+    mut marks: [u8; PLACES],
+    exempts: &[bool; GROUPS],
+    groupings: &[u8; GROUPS],
+) -> [u8; PLACES]
     requires { ⌜ Grouped (held marks (now exempts) (now groupings)) ⌝ }
     ensures { λ r. ⌜ r ≡ table places (mark p (held marks (now (exempts .entry)) (now (groupings .entry)))) ⌝ }
 {
@@ -82,8 +84,8 @@ pub(crate) fn give_marks(
         second: 0,
     };
     let mut i: usize = 0;
-    while i < 992 {
-        let g = i % 32;
+    while i < PLACES {
+        let g = i % GROUPS;
         let code = marks[i];
         let exempt = exempts[g];
         let grouping = groupings[g];

@@ -7,7 +7,7 @@ use lib.ListN.{length, take, drop, length-drop}
 use lib.Seq.{drop-drop}
 use Rattle.wire.specs.Cut.{firstLength, cut}
 use Rattle.wire.proofs.Cut.{first-in, cut-none, cut-next}
-use Rattle.book.specs.Accepted.{posted}
+use Rattle.accepted.specs.Accepted.{posted}
 use Rattle.book.specs.Post.{postAnswer, postBook}
 use Rattle.text.specs.declared.Place.{Place}
 use Rattle.text.specs.Text.{Wrote}

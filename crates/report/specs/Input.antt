@@ -8,7 +8,7 @@ use lib.Dec.{leb, eqb}
 use lib.ListN.{length}
 use Rattle.wire.specs.Cut.{cut}
 use Rattle.records.specs.Bodies.{kindAt}
-use Rattle.book.specs.Activity.{activityKind}
+use Rattle.activity.specs.Activity.{activityKind}
 
 -- reads standard input, at most 65,536 bytes
 abbrev pub inputLimit : ℕ

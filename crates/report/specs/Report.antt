@@ -12,7 +12,7 @@ use Rattle.records.specs.Bodies.{bodyAt}
 use Rattle.records.specs.Fields.{firmFields, letters}
 use Rattle.schedule.specs.Outcome.{Outcome, refused, good}
 use Rattle.lookup.specs.declared.Layout.{Layout}
-use Rattle.book.specs.Accepted.{posted}
+use Rattle.accepted.specs.Accepted.{posted}
 use Rattle.book.specs.Book.{perFirmGroup, checkBook, openBook}
 use Rattle.book.specs.Post.{Effect, postAnswer, postBook}
 use Rattle.statement.specs.Layout.{lineSize, totalsSize, bothTotals, largest}

@@ -63,7 +63,7 @@ fn blank_statement() -> [u8; LARGEST]
     [0; LARGEST]
 }
 
-// Writes the lines of firm f. In a report its statement is never refused (specs/Laws.antt).
+// Writes the lines of firm f. In a report its statement is never refused (report_laws).
 fn put_firm(
     out: &mut [u8],
     place: Place,

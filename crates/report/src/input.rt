@@ -1,5 +1,5 @@
 // Where the schedule ends in the program's input.
-use book::ACTIVITY_KIND;
+use activity::ACTIVITY_KIND;
 use wire::first_len;
 use wire::u16_at;
 ghost use mathlib.Core.Path.{_≡_};

@@ -7,7 +7,7 @@ use text::put_line;
 use wire::first_len;
 ghost use mathlib.Core.Path.{_≡_};
 ghost use Rattle.wire.specs.Cut.{cut};
-ghost use Rattle.book.specs.Accepted.{posted};
+ghost use Rattle.accepted.specs.Accepted.{posted};
 ghost use Rattle.book.specs.Post.{postAnswer, postBook};
 ghost use Rattle.text.specs.Text.{Wrote};
 ghost use Rattle.report.specs.Report.{postLine, postLines};

@@ -1,4 +1,5 @@
 pub mod Numbers
 pub mod Turns
 pub mod Good
+pub mod Codes
 pub mod Found

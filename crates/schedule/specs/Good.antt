@@ -1,11 +1,13 @@
--- What a good schedule holds (document 01, "Records"). Proved of every schedule that the check does not refuse: proofs/Good.antt, Found.antt.
+-- What a good schedule holds (document 01, "Records"). Proved of every schedule that the check does not refuse: proofs/Good.antt,
+-- Codes.antt, Found.antt.
 -- Assumes nothing.
 use Prim.Native.Nat.{ℕ, _+_, _*_, _≤_, _<_}
 use mathlib.Core.Bool.{Bool, true, false}
-use mathlib.Core.List.{List}
+use mathlib.Core.List.{List, [], _∷_}
 use mathlib.Core.Path.{_≡_}
-use lib.ListN.{length}
-use Rattle.wire.specs.Choose.{within}
+use lib.Dec.{eqb}
+use lib.ListN.{length, getD}
+use Rattle.wire.specs.Choose.{all, within}
 use Rattle.records.specs.Bodies.{lengthAt, kindAt, bodyAt, headSize, firmSize}
 use Rattle.records.specs.Fields.{headFields, headOk, groupInRange, firmFields, firmOk}
 use Rattle.contracts.specs.Listing.{contractsOk, listed}
@@ -18,7 +20,7 @@ use Rattle.lookup.specs.declared.Layout.{Layout}
 abbrev pub Once : (n : ℕ) → (ℕ → Bool) → Type 0
 Once n p = (i j : ℕ) → i < n → j < n → p i ≡ true → p j ≡ true → i ≡ j
 
--- the record of a group at a place: kind 2, 16 + 2n bytes with n listed contracts, 1 to 64, and every field in range
+-- the record of a group at a place: kind 2, 16 + 2n bytes with n listed contracts, 1 to 64, which are month numbers and rise
 pub record GroupStands (S : List ℕ) (at : ℕ) : Type 0 where
   pub kind : kindAt S at ≡ 2
   pub size : lengthAt S at ≡ 16 + 2 * listed (bodyAt S at)
@@ -56,6 +58,23 @@ pub record GoodSchedule (S : List ℕ) (l : Layout) : Type 0 where
   -- no code is repeated in its kind
   pub groupOnce : (x y : ℕ) → Once (l .groups) (groupIs S (l .first) x y)
   pub firmOnce : (C : List ℕ) → Once (l .firms) (firmIs S (l .start) C)
+
+-- where the codes of a good schedule stand in its bytes, by document 01's own offsets: a group's at 4 of its record, a firm's at 4
+pub record CodesStand (S : List ℕ) (l : Layout) : Type 0 where
+  pub group : (x y i : ℕ) → i < l .groups
+      → groupIs S (l .first) x y i
+      ≡ all
+      (eqb (getD S (groupStart S (l .first) i + 4) 0) x
+      ∷ eqb (getD S (groupStart S (l .first) i + 5) 0) y
+      ∷ [])
+  pub firm : (C : List ℕ) (i : ℕ) → i < l .firms
+      → firmIs S (l .start) C i
+      ≡ all
+      (eqb (length C) 3
+      ∷ eqb (getD S (firmStart (l .start) i + 4) 0) (getD C 0 0)
+      ∷ eqb (getD S (firmStart (l .start) i + 5) 0) (getD C 1 0)
+      ∷ eqb (getD S (firmStart (l .start) i + 6) 0) (getD C 2 0)
+      ∷ [])
 
 -- of n records, i is the only one of which the test holds
 pub record Only (n : ℕ) (p : ℕ → Bool) (i : ℕ) : Type 0 where

@@ -22,7 +22,8 @@ use Rattle.schedule.proofs.Good.{refused-good}
 use Rattle.month.specs.Month.{startsOf, groupingsOf, firmMonth, monthAnswer}
 use Rattle.statement.specs.Layout.{lineSize, bothTotals}
 use Rattle.statement.specs.Statement.{statementBytes, need, statementAnswer, StatementIs}
-use Rattle.statement.specs.Parts.{heldMark, heldGrouping, heldGroup, heldShown}
+use Rattle.month.specs.Parts.{heldGrouping}
+use Rattle.statement.specs.Parts.{heldMark, heldGroup, heldShown}
 use Rattle.statement.specs.declared.Stated.the-variants as stated
 use Rattle.statement.proofs.Shown.{marks-count, bytes-length, shown-same}
 

@@ -1,11 +1,10 @@
--- A number's fewest decimal digits are as many as the definition says, and how many there are at the most.
-use Prim.Native.Nat.{ℕ, zero, suc, _-_, _/_, _^_, _≤_, _<_}
+-- A number's fewest decimal digits are as many as the definition says.
+use Prim.Native.Nat.{ℕ, _-_, _^_, _≤_, _<_}
 use mathlib.Core.Bool.{Bool, true, false}
 use mathlib.Core.Path.{_≡_, refl, ap}
 use native.Mathlib.Nat.{pow-le-pow-right}
 use native.Mathlib.Omega.{arith}
 use lib.Dec.{ltb}
-use lib.ListN.{length, length-append}
 use borrow.Author.Tests.{ltb-true, ltb-false}
 use Rattle.io.specs.Digits.{digits, Fewest}
 use Rattle.wire.proofs.Choose.{Sought, sought-in}
@@ -34,22 +33,3 @@ fewest-is n k q h f s = go (ltb k q) (ltb q k) refl refl
 pub fewest-decimal : (n k : ℕ) → n < 10 ^ 20 → Fewest 10 1 n k → digits 10 k n ≡ decimal n
 unfolding decimal
 fewest-decimal n k h f = ap (λ (k : ℕ). digits 10 k n) (fewest-is n k (digitCount n) h f (sought-in 19 1 (λ k. ltb n (10 ^ k))))
-
--- k digits are k bytes
-digits-length : (b k n : ℕ) → length (digits b k n) ≡ k
-digits-length b zero n = refl
-digits-length b (suc k) n = rw length-append (omega (arith, digits-length b k (n / b)))
-
--- a number has at most 20 digits
-pub decimal-most : (n : ℕ) → length (decimal n) ≤ 20
-unfolding decimal
-decimal-most n = rw digits-length (sought-in 19 1 (λ k. ltb n (10 ^ k)) .most)
-
--- and one below 100 at most two
-pub decimal-two : (n : ℕ) → n < 100 → length (decimal n) ≤ 2
-unfolding decimal
-decimal-two n h = rw digits-length (go (ltb 2 (digitCount n)) refl)
-  where
-    go : (b : Bool) → ltb 2 (digitCount n) ≡ b → digitCount n ≤ 2
-    go true e = absurd (omega (arith, ltb-false n 100 (sought-in 19 1 (λ k. ltb n (10 ^ k)) .missed 2 (omega arith) (ltb-true _ _ e))))
-    go false e = ltb-false 2 (digitCount n) e

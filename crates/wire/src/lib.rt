@@ -1,11 +1,12 @@
-// Little-endian numbers of a byte string, the cut of a run of records, and small tests of numbers. Every reader is total: past the end
-// stand zeros.
+// Little-endian numbers of a byte string, the cut of a run of records, small tests of numbers, and a fill of numbers. Every reader is total:
+// past the end stand zeros.
 ghost use mathlib.Core.Path.{_≡_};
 ghost use Prim.Native.Nat.{_≤_, min};
-ghost use lib.ListN.{getD};
+ghost use lib.ListN.{length, getD};
 ghost use Rattle.wire.specs.Bytes.{u16At, u32At};
 ghost use Rattle.wire.specs.Choose.{within};
 ghost use Rattle.wire.specs.Cut.{firstLength};
+ghost use Rattle.wire.specs.Lists.{table, over};
 ghost use Rattle.wire.specs.Sums.{bit};
 
 // 1 where a test holds, else 0.
@@ -71,4 +72,16 @@ pub fn first_len(run: &[u8]) -> usize
         return run.len();
     }
     len
+}
+
+// Sets the first n numbers to a value, all of them where there are no more.
+pub fn fill(numbers: &mut [u64], n: usize, value: u64)
+    ensures { λ _. ⌜ now (numbers .exit) ≡ over (table (min n (length (now (numbers .entry)))) (λ i. value)) (now (numbers .entry)) ⌝ }
+{
+    let most = least(n, numbers.len());
+    let mut i: usize = 0;
+    while i < most {
+        numbers[i] = value;
+        i += 1;
+    }
 }

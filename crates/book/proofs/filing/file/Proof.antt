@@ -11,8 +11,9 @@ use borrow.Author.Tests.{eqb-true, not-false}
 use Rattle.wire.proofs.Bools.{and-right}
 use Rattle.wire.proofs.Choose.{choose-first, choose-second, Passed, passed}
 use Rattle.records.specs.Bodies.{lengthAt}
-use Rattle.book.specs.Activity.{activityLength}
-use Rattle.book.specs.Post.{formCauses, listCauses, recordCauses}
+use Rattle.activity.specs.Activity.{activityLength}
+use Rattle.activity.specs.Activity.{formCauses}
+use Rattle.book.specs.Post.{listCauses, recordCauses}
 use Rattle.book.proofs.Answers.{filed-same}
 use Rattle.book.proofs.filing.file.Statement.{statement}
 use Rattle.book.proofs.filing.file.Tie as tie

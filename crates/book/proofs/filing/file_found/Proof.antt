@@ -15,7 +15,7 @@ use Rattle.contracts.specs.Counted.{statusMeaning, statusOf, contractListed, co
 use Rattle.contracts.specs.declared.counted.Status.{Status}
 use Rattle.contracts.specs.declared.counted.Status.the-variants as kind
 use Rattle.contracts.proofs.Status.{saysListed, saysCounted, status-listed, status-counted}
-use Rattle.book.specs.Activity.{day, contractOf}
+use Rattle.activity.specs.Activity.{day, contractOf}
 use Rattle.book.specs.Post.{groupBody}
 use Rattle.book.proofs.filing.file_found.Statement.{statement}
 use Rattle.book.proofs.filing.file_found.Tie as tie

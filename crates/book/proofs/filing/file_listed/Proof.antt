@@ -10,7 +10,7 @@ use Rattle.wire.proofs.Choose.{here, next, chosen}
 use Rattle.lookup.specs.Lookup.{firmIs, firmListed, firmMeaning, groupListed, groupMeaning, groupFound}
 use Rattle.lookup.proofs.Laws.{FoundAt, firm-found, firm-unlisted, group-found, group-placed, group-unlisted}
 use Rattle.book.specs.Post.{listCauses}
-use Rattle.book.specs.Activity.{firmCode, groupFirst, groupSecond}
+use Rattle.activity.specs.Activity.{firmCode, groupFirst, groupSecond}
 use Rattle.book.proofs.Answers.{filed-same}
 use Rattle.book.proofs.filing.file_listed.Statement.{statement}
 use Rattle.book.proofs.filing.file_listed.Tie as tie

@@ -1,0 +1,57 @@
+-- A computed example of posts: a schedule as in document 01's whole run (October 2019, ES, firm ABC), but with day 2 not in effect, and
+-- records whose counts are all different, so that a count read in the place of another would show.
+-- Assumes nothing.
+use Prim.Native.Nat.{ℕ, _+_}
+use mathlib.Core.List.{List, [], _∷_, _++_}
+use mathlib.Core.Path.{_≡_, refl}
+use Rattle.wire.specs.Bytes.{u16At, u32At}
+use Rattle.wire.specs.Choose.{choose, all, seekIn}
+use Rattle.wire.specs.Lists.{joined, table, over}
+use Rattle.wire.specs.Sums.{sum}
+use Rattle.calendar.specs.Calendar.{daysIn}
+use Rattle.contracts.specs.Counted.{contractListed, contractCounted, inFront, isAfter, isCounted, contractIs}
+use Rattle.records.specs.Fields.{headFields, headOk, groupFields, groupInRange, isLetter, firmFields, firmOk, hasCode}
+use Rattle.contracts.specs.Listing.{contractsOk, contractBad, before, contract, listed}
+use Rattle.lookup.specs.Lookup.{groupStart, groupIs, firmIs, groupListed, firmListed}
+use Rattle.schedule.specs.Outcome.{Outcome, refused, good}
+use Rattle.schedule.specs.Check.{checkOf, scan, ending, withRecord, cause, isRepeated, fieldsOk, isFull, lengthOk, isDue, kindOf}
+use Rattle.activity.specs.Activity.{totalsOf}
+use Rattle.book.specs.Book.{perFirmGroup, none, checkBook, openBook}
+use Rattle.book.specs.Post.{Effect, outside, counted, postCause, postAnswer, postBook}
+use Rattle.accepted.specs.Accepted.{acceptedCells, accepted, posted}
+use Rattle.accepted.specs.Samples.{head, group, firm, activity}
+
+-- October 2019 with day 2 not in effect, ES and ABC
+abbrev schedule : List ℕ
+schedule = head 2 ++ group 69 83 1 ++ firm
+
+-- a record of ABC in ES: of each count the next power of ten, lots last
+abbrev counts : (day contract : ℕ) → List ℕ
+counts day contract = activity 69 83 day contract 1 10 100 1000 10000 100000 1000000 10000000
+
+-- day 1 twice, day 2 between, then day 32, an unlisted contract, and a record of two bytes
+abbrev posts : List (List ℕ)
+posts = counts 1 24239 ∷ counts 2 24239 ∷ counts 1 24239 ∷ counts 32 24239 ∷ counts 1 24240 ∷ (44 ∷ 0 ∷ []) ∷ []
+
+-- the answers to a list, each post taking the book as the one before left it
+abbrev answers : (B : List ℕ) → (rs : List (List ℕ)) → List (Outcome Effect)
+answers B [] = []
+answers B (R ∷ rs) = postAnswer schedule B R ∷ answers (postBook schedule B R) rs
+
+-- a book with one number more than it needs, opened
+abbrev book : List ℕ
+book = openBook schedule (table (perFirmGroup + 1) (λ i. 7))
+
+pub record Example : Type 0 where
+  pub answered : answers book posts ≡ good counted ∷ good outside ∷ good counted ∷ refused 16 0 ∷ refused 17 0 ∷ refused 11 0 ∷ []
+  -- raw 1 + 10 + 100 + 1,000 and score 10 + 3 × (100 + 1,000 + 10,000 + 100,000), each twice
+  pub accepts : accepted schedule posts 0 0 1 ≡ record { raw = 2222; score = 666620; lots = 20000000 }
+  pub passes : accepted schedule posts 0 0 2 ≡ none
+  pub holds : posted schedule book posts ≡ over (2222 ∷ 666620 ∷ 20000000 ∷ []) book
+
+pub example : Example
+unfolding acceptedCells posted postCause totalsOf checkBook checkOf scan ending withRecord cause isRepeated fieldsOk isFull lengthOk isDue kindOf
+    firmListed groupListed firmIs groupIs groupStart firmOk firmFields hasCode groupInRange groupFields contractsOk contractBad before contract
+    listed headOk headFields isLetter contractIs isCounted isAfter inFront contractCounted contractListed daysIn sum joined seekIn all choose u32At
+    u16At
+example = record { answered = refl; accepts = refl; passes = refl; holds = refl }

@@ -1,0 +1,4 @@
+pub mod Accepted
+pub mod Laws
+pub mod Samples
+pub mod Example

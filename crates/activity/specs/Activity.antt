@@ -1,0 +1,91 @@
+-- An activity record's fields, what it adds to its cell, and what refuses its form (document 01, "Records", kind 4, "The day's verdict" and
+-- "Numbers of refusal"). R is the whole record.
+-- Assumes nothing.
+use Prim.Native.Nat.{ℕ, _+_, _*_}
+use mathlib.Core.Bool.{Bool, not, _&&_}
+use mathlib.Core.List.{List, [], _∷_}
+use lib.Dec.{ltb, eqb}
+use lib.ListN.{length, getD, take, drop}
+use Rattle.wire.specs.Bytes.{u16At, u32At}
+use Rattle.rules.specs.declared.Totals.{Totals}
+use Rattle.records.specs.Bodies.{lengthAt, kindAt}
+
+-- Records: kind 4, activity, 44 bytes
+abbrev pub activityKind : ℕ
+activityKind = 4
+
+abbrev pub activityLength : ℕ
+activityLength = 44
+
+-- Records, kind 4: firm at 4
+abbrev pub firmCode : (R : List ℕ) → List ℕ
+firmCode R = take 3 (drop 4 R)
+
+-- Records, kind 4: day u8 at 7
+abbrev pub day : (R : List ℕ) → ℕ
+day R = getD R 7 0
+
+-- Records, kind 4: group at 8, its first letter
+abbrev pub groupFirst : (R : List ℕ) → ℕ
+groupFirst R = getD R 8 0
+
+-- and its second
+abbrev pub groupSecond : (R : List ℕ) → ℕ
+groupSecond R = getD R 9 0
+
+-- Records, kind 4: contract u16 at 10
+abbrev pub contractOf : (R : List ℕ) → ℕ
+contractOf R = u16At R 10
+
+-- Records, kind 4: u32 each from 12, first new orders
+abbrev pub newOrders : (R : List ℕ) → ℕ
+newOrders R = u32At R 12
+
+-- Records, kind 4: modifications, at 16
+abbrev pub modifications : (R : List ℕ) → ℕ
+modifications R = u32At R 16
+
+-- Records, kind 4: cancellations, at 20
+abbrev pub cancellations : (R : List ℕ) → ℕ
+cancellations R = u32At R 20
+
+-- Records, kind 4: FAK/FOK, at 24
+abbrev pub fakFok : (R : List ℕ) → ℕ
+fakFok R = u32At R 24
+
+-- Records, kind 4: mass action requests, at 28
+abbrev pub massRequests : (R : List ℕ) → ℕ
+massRequests R = u32At R 28
+
+-- Records, kind 4: mass action reports, at 32
+abbrev pub massReports : (R : List ℕ) → ℕ
+massReports R = u32At R 32
+
+-- Records, kind 4: minimum-quantity orders, at 36
+abbrev pub minimumQuantity : (R : List ℕ) → ℕ
+minimumQuantity R = u32At R 36
+
+-- Records, kind 4: lots, at 40
+abbrev pub lots : (R : List ℕ) → ℕ
+lots R = u32At R 40
+
+-- The day's verdict: new orders + modifications + cancellations + FAK/FOK orders; mass actions are not in it
+abbrev pub rawCount : (R : List ℕ) → ℕ
+rawCount R = newOrders R + modifications R + cancellations R + fakFok R
+
+-- The day's verdict: modifications + 3 × (cancellations + FAK/FOK orders + mass action requests + mass action reports); minimum-quantity
+-- orders score nothing
+abbrev pub score : (R : List ℕ) → ℕ
+score R = modifications R + 3 * (cancellations R + fakFok R + massRequests R + massReports R)
+
+-- what the record adds to its cell
+unfoldable pub totalsOf : (R : List ℕ) → Totals
+totalsOf R = record { raw = rawCount R; score = score R; lots = lots R }
+
+-- Numbers of refusal, 11 to 13, of the record alone: under four bytes; kind not 4; length field or slice not 44
+abbrev pub formCauses : (R : List ℕ) → List (Bool × ℕ)
+formCauses R =
+    (ltb (length R) 4, 11)
+    ∷ (not (eqb (kindAt R 0) activityKind), 12)
+    ∷ (not (eqb (lengthAt R 0) activityLength && eqb (length R) activityLength), 13)
+    ∷ []

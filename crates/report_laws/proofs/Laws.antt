@@ -1,0 +1,35 @@
+-- The laws of reports.
+use Prim.Native.Nat.{ℕ, _≤_, zero-le}
+use mathlib.Core.List.{List}
+use mathlib.Core.Path.{_≡_, _∙_}
+use native.Mathlib.Nat.{le-refl, zero-add}
+use native.Mathlib.Omega.{arith}
+use lib.ListN.{length, take}
+use lib.Seq.{take-all, take-paste}
+use borrow.Author.Tests.{eq-eqb}
+use Rattle.text.specs.Text.{room}
+use Rattle.report.specs.Report.{report}
+use Rattle.report.specs.Answer.{outputSize, whole, reportAnswer, reportOutput}
+use Rattle.report_laws.specs.Laws.{Laws}
+use Rattle.report.proofs.Answers.{answer-within}
+use Rattle.report_laws.proofs.Bounds.{fits}
+use Rattle.report_laws.proofs.FirmShown.{firm-shown}
+
+-- of an output of that size
+module _ (I O : List ℕ) (h : outputSize ≤ length O) where
+  -- all of the report has room
+  all : room O 0 (report I) ≡ length (report I)
+  all = omega (arith, fits I)
+
+  -- the answer is whole
+  answer : reportAnswer I O ≡ whole (length (report I))
+  answer = rw (all, eq-eqb (length (report I)) (length (report I)))
+
+  -- its bytes are the report
+  printed : take (length (report I)) (reportOutput I O) ≡ report I
+  printed =
+      let n = length (report I) in
+      rw (all, zero-add) ((rw zero-add at (take-paste O 0 (report I) n zero-le (le-refl _))) ∙ take-all n (report I) (le-refl _))
+
+pub laws : Laws
+laws = record { fits = fits; answer = answer; printed = printed; within = answer-within; firms = firm-shown }

@@ -1,0 +1,4 @@
+pub mod LineBounds
+pub mod Bounds
+pub mod FirmShown
+pub mod Laws
