@@ -24,7 +24,8 @@ use Rattle.book.specs.Book.{empty, grown}
 use Rattle.book.specs.Post.{firmPlaceOf, groupPlaceOf, isAdded}
 use Rattle.accepted.specs.Accepted.{isAt, accept, acceptedCells, accepted, isOwn, own}
 use Rattle.book.specs.declared.cells.Cell.{Cell}
-use Rattle.book.proofs.Places.{Placed, Same}
+use Rattle.book.proofs.Places.{Placed}
+use Rattle.accepted.proofs.Cells.{Same}
 use Rattle.book.proofs.Admitted.{Added, added}
 
 -- a record whose cell is that of firm f, group g and day d, by the test and by its parts

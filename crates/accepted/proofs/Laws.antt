@@ -25,7 +25,8 @@ use Rattle.accepted.specs.Accepted.{isAt, accept, acceptedCells, own, po
 use Rattle.book.specs.declared.cells.Cell.{Cell}
 use Rattle.accepted.specs.Laws.{Laws}
 use Rattle.book.proofs.Checked.{by-room, book-good}
-use Rattle.book.proofs.Places.{cell-eq, cell-same, cell-other, Placed, inside, same-cell}
+use Rattle.book.proofs.Places.{Placed, inside}
+use Rattle.accepted.proofs.Cells.{cell-eq, cell-same, cell-other, same-cell}
 use Rattle.book.proofs.Admitted.{admitted-inside, added}
 use Rattle.accepted.proofs.Accepted.{at-same, same-at, accepted-fold, accepted-own, accepted-none, accepted-fits}
 

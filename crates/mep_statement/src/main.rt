@@ -1,15 +1,15 @@
 // mep-statement: reads a schedule and a month's activity from standard input, and prints every firm's statement. What it prints is what
 // `report` writes; only reading and printing stand here.
+use input::INPUT;
 use libc::STDIN_FILENO;
 use libc::STDOUT_FILENO;
-use report::INPUT;
 use report::OUTPUT;
 use report::Reported;
 use report::report;
 ghost use mathlib.Core.Path.{_≡_};
 ghost use Prim.Native.Nat.{_+_};
 ghost use lib.ListN.{length};
-ghost use Rattle.report.specs.Input.{inputLimit};
+ghost use Rattle.input.specs.Input.{inputLimit};
 ghost use Rattle.report.specs.Answer.{outputSize};
 
 // One byte more than the program takes, so that a longer input is seen to be too long.

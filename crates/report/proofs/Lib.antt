@@ -1,4 +1,3 @@
-pub mod Cuts
 pub mod FirmLines
 pub mod Posting
 pub mod Answers

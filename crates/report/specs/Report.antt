@@ -18,7 +18,7 @@ use Rattle.book.specs.Post.{Effect, postAnswer, postBook}
 use Rattle.statement.specs.Layout.{lineSize, totalsSize, bothTotals, largest}
 use Rattle.statement.specs.Statement.{statementAnswer, statementOutput}
 use Rattle.text.specs.Lines.{tooLong, heading, refusedLine, refusedAt, violationLine, totalsLine}
-use Rattle.report.specs.Input.{inputLimit, scheduleOf, activityOf}
+use Rattle.input.specs.Input.{inputLimit, scheduleOf, activityOf}
 
 -- Its book fits 88 firm-groups
 abbrev pub firmGroups : ℕ

@@ -1,12 +1,13 @@
 // A month's report: every firm's statement as text, from a schedule and activity in one input.
 mod firms;
-mod input;
 mod posts;
 
 use book::PER_FIRM_GROUP;
 use book::check_book;
 use book::open;
 use firms::put_firms;
+use input::INPUT;
+use input::schedule_end;
 use lookup::Layout;
 use posts::put_posts;
 use schedule::Checked;
@@ -18,11 +19,8 @@ ghost use Rattle.wire.specs.Cut.{cut};
 ghost use Rattle.text.specs.Text.{Wrote};
 ghost use Rattle.report.specs.Report.{bookSize, zeros, monthLines, report};
 ghost use Rattle.report.specs.Answer.{ReportIs};
-pub use input::schedule_end;
 
-// The most bytes of an input that is taken, and the bytes of an output that has room for every report.
-pub const INPUT: usize = 65_536;
-
+// The bytes of an output that has room for every report.
 pub const OUTPUT: usize = 524_288;
 
 // The firm-groups of the book, and its numbers.

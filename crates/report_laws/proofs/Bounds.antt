@@ -37,7 +37,7 @@ use Rattle.month.specs.Month.{terms, monthOf, firmTotals, firmMonth, monthAnswe
 use Rattle.month.proofs.Answers.{judged-book}
 use Rattle.statement.specs.Statement.{statementBytes, need, outputUnder}
 use Rattle.statement.proofs.Shown.{bytes-length}
-use Rattle.report.specs.Input.{inputLimit, isActivity, recordsFrom, scheduleOf, activityOf}
+use Rattle.input.specs.Input.{inputLimit, isActivity, recordsFrom, scheduleOf, activityOf}
 use Rattle.text.specs.Lines.{tooLong, violationLine}
 use Rattle.report_laws.proofs.LineBounds.{refused-at-most, heading-most, refused-most, refused-two, violation-most, totals-most}
 use Rattle.report.specs.Report.{bookSize, zeros, postLine, postLines, statementLines, firmLines, codeOf, statementOf}

@@ -25,7 +25,7 @@ use Rattle.statement.specs.Lines.{lineAt, tally, shown}
 use Rattle.guarantee.specs.Example.{schedule, run, threeGroups, manyMarks}
 use Rattle.text.specs.Text.{text, decimal}
 use Rattle.text.specs.Lines.{refusedAt, heading, refusedLine, markWord, charge, counts, violationLine, totalsLine}
-use Rattle.report.specs.Input.{bytesBefore, recordsFrom}
+use Rattle.input.specs.Input.{bytesBefore, recordsFrom}
 use Rattle.report.specs.Report.{zeros, postLines, statementLines, statementOf, monthLines, report}
 use Rattle.report.specs.Answer.{whole, cut, reportAnswer, reportOutput}
 

@@ -10,9 +10,9 @@ use denote.Ref.{now}
 use borrow.Author.Needs.{needs}
 use borrow.Author.Tests.{lt-ltb, le-ltb}
 use Rattle.schedule.specs.Check.{meaning}
-use Rattle.report.specs.Input.{inputLimit, scheduleOf}
+use Rattle.input.specs.Input.{inputLimit, scheduleOf}
 use Rattle.report.specs.Report.{report}
-use Rattle.report.proofs.Cuts.{schedule-first, schedule-most, activity-rest}
+use Rattle.input.proofs.Cuts.{schedule-first, schedule-most, activity-rest}
 use Rattle.report.proofs.put_report.Statement.{statement}
 use Rattle.report.proofs.put_report.Tie as tie
 

@@ -11,10 +11,10 @@ use denote.Ref.{now}
 use borrow.Author.Needs.{needs}
 use Rattle.wire.specs.Cut.{firstLength}
 use Rattle.wire.proofs.Cut.{CutAt, cut-at}
-use Rattle.report.specs.Input.{isActivity, scheduleOf}
-use Rattle.report.proofs.Cuts.{schedule-none, schedule-stops, schedule-longer}
-use Rattle.report.proofs.input.schedule_end.Statement.{statement}
-use Rattle.report.proofs.input.schedule_end.Tie as tie
+use Rattle.input.specs.Input.{isActivity, scheduleOf}
+use Rattle.input.proofs.Cuts.{schedule-none, schedule-stops, schedule-longer}
+use Rattle.input.proofs.schedule_end.Statement.{statement}
+use Rattle.input.proofs.schedule_end.Tie as tie
 
 abbrev Inv-loop : tie.InvT-loop
 Inv-loop input at₀ at = (at + length (scheduleOf (drop at input)) ≡ length (scheduleOf input)) × (at ≤ length input)

@@ -12,7 +12,7 @@ use borrow.Author.Tests.{eqb-true, eqb-false}
 use Rattle.wire.specs.Cut.{firstLength, cut}
 use Rattle.wire.proofs.Cut.{first-in, cut-none, cut-next}
 use Rattle.wire.proofs.Lists.{part-lent}
-use Rattle.report.specs.Input.{isActivity, bytesBefore, recordsFrom, scheduleOf, activityOf}
+use Rattle.input.specs.Input.{isActivity, bytesBefore, recordsFrom, scheduleOf, activityOf}
 
 module _ (S : List ℕ) where
   -- no bytes, no schedule

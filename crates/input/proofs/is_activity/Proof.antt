@@ -1,7 +1,7 @@
 -- The two tests are those of the definition; the kind is read at two.
 use borrow.Author.Needs.{needs}
-use Rattle.report.proofs.input.is_activity.Statement.{statement}
-use Rattle.report.proofs.input.is_activity.Tie as tie
+use Rattle.input.proofs.is_activity.Statement.{statement}
+use Rattle.input.proofs.is_activity.Tie as tie
 
 returns : tie.Need-returns
 returns c = rw (c .u16-at .ensures)

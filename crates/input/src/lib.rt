@@ -1,10 +1,13 @@
-// Where the schedule ends in the program's input.
+// The input of mep-statement: a schedule, then activity. Where the one ends and the other begins.
 use activity::ACTIVITY_KIND;
 use wire::first_len;
 use wire::u16_at;
 ghost use mathlib.Core.Path.{_≡_};
 ghost use lib.ListN.{length};
-ghost use Rattle.report.specs.Input.{isActivity, scheduleOf};
+ghost use Rattle.input.specs.Input.{isActivity, scheduleOf};
+
+// The most bytes of an input that is taken.
+pub const INPUT: usize = 65_536;
 
 // The record has four bytes or more and the kind 4.
 fn is_activity(record: &[u8]) -> bool
