@@ -3,6 +3,9 @@ use crate::hex::put_hex;
 use book::Opened;
 use book::Posted;
 use libc::STDOUT_FILENO;
+use text::Line;
+use text::Place;
+use text::put_line;
 ghost use Prim.Native.Nat.{_≤_};
 ghost use lib.ListN.{length};
 
@@ -20,10 +23,12 @@ fn say_number(text: &[u8], n: u64) {
     io::print_decimal(STDOUT_FILENO, n);
 }
 
+// As a report has it.
 pub(crate) fn print_refused(number: u8, offset: usize) {
-    say_number(b"refused ", number as u64);
-    say_number(b" at ", offset as u64);
-    say(b"\n");
+    let mut line = [0u8; 64];
+    let front = Place { at: 0, whole: true };
+    let end = put_line(&mut line, front, Line::RefusedAt { number, offset });
+    say(&line[..end.at]);
 }
 
 pub(crate) fn print_opened(answer: Opened) {
