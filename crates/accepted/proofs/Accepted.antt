@@ -21,7 +21,8 @@ use Rattle.lookup.specs.declared.Layout.{Layout}
 use Rattle.lookup.proofs.Laws.{firm-found}
 use Rattle.activity.specs.Activity.{firmCode, day, totalsOf}
 use Rattle.book.specs.Book.{empty, grown}
-use Rattle.book.specs.Post.{firmPlaceOf, groupPlaceOf, isAdded}
+use Rattle.filing.specs.Causes.{firmPlaceOf, groupPlaceOf}
+use Rattle.book.specs.Post.{isAdded}
 use Rattle.accepted.specs.Accepted.{isAt, accept, acceptedCells, accepted, isOwn, own}
 use Rattle.book.specs.declared.cells.Cell.{Cell}
 use Rattle.book.proofs.Places.{Placed}

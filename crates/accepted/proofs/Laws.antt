@@ -20,7 +20,8 @@ use Rattle.lookup.specs.declared.Layout.{Layout}
 use Rattle.schedule.proofs.Good.{refused-good}
 use Rattle.activity.specs.Activity.{day, totalsOf}
 use Rattle.book.specs.Book.{width, size, index, cellAt, numbersOf, withCell, empty, grown, cells, checkBook, openAnswer, openBook}
-use Rattle.book.specs.Post.{firmPlaceOf, groupPlaceOf, indexOf, isCountedRecord, postCause, isAdded, outside, counted, answerUnder, bookUnder, postAnswer, postBook}
+use Rattle.filing.specs.Causes.{firmPlaceOf, groupPlaceOf, isCountedRecord}
+use Rattle.book.specs.Post.{indexOf, postCause, isAdded, outside, counted, answerUnder, bookUnder, postAnswer, postBook}
 use Rattle.accepted.specs.Accepted.{isAt, accept, acceptedCells, own, posted}
 use Rattle.book.specs.declared.cells.Cell.{Cell}
 use Rattle.accepted.specs.Laws.{Laws}

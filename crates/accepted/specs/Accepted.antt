@@ -12,9 +12,10 @@ use Rattle.rules.specs.Month.{Cells}
 use Rattle.schedule.specs.Outcome.{given}
 use Rattle.schedule.specs.Check.{checkOf}
 use Rattle.lookup.specs.declared.Layout.{Layout}
-use Rattle.activity.specs.Activity.{firmCode, day, totalsOf, formCauses}
+use Rattle.activity.specs.Activity.{firmCode, day, totalsOf}
+use Rattle.filing.specs.Causes.{formCauses, firmPlaceOf, groupPlaceOf}
 use Rattle.book.specs.Book.{empty, grown}
-use Rattle.book.specs.Post.{firmPlaceOf, groupPlaceOf, isAdded, postBook}
+use Rattle.book.specs.Post.{isAdded, postBook}
 use Rattle.book.specs.declared.cells.Cell.{Cell}
 
 module _ (S : List ℕ) (l : Layout) (f g d : ℕ) where

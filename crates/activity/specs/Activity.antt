@@ -1,14 +1,10 @@
--- An activity record's fields, what it adds to its cell, and what refuses its form (document 01, "Records", kind 4, "The day's verdict" and
--- "Numbers of refusal"). R is the whole record.
+-- An activity record's fields, and what it adds to its cell (document 01, "Records", kind 4, and "The day's verdict"). R is the whole record.
 -- Assumes nothing.
 use Prim.Native.Nat.{ℕ, _+_, _*_}
-use mathlib.Core.Bool.{Bool, not, _&&_}
-use mathlib.Core.List.{List, [], _∷_}
-use lib.Dec.{ltb, eqb}
-use lib.ListN.{length, getD, take, drop}
+use mathlib.Core.List.{List}
+use lib.ListN.{getD, take, drop}
 use Rattle.wire.specs.Bytes.{u16At, u32At}
 use Rattle.rules.specs.declared.Totals.{Totals}
-use Rattle.records.specs.Bodies.{lengthAt, kindAt}
 
 -- Records: kind 4, activity, 44 bytes
 abbrev pub activityKind : ℕ
@@ -81,11 +77,3 @@ score R = modifications R + 3 * (cancellations R + fakFok R + massRequests R + m
 -- what the record adds to its cell
 unfoldable pub totalsOf : (R : List ℕ) → Totals
 totalsOf R = record { raw = rawCount R; score = score R; lots = lots R }
-
--- Numbers of refusal, 11 to 13, of the record alone: under four bytes; kind not 4; length field or slice not 44
-abbrev pub formCauses : (R : List ℕ) → List (Bool × ℕ)
-formCauses R =
-    (ltb (length R) 4, 11)
-    ∷ (not (eqb (kindAt R 0) activityKind), 12)
-    ∷ (not (eqb (lengthAt R 0) activityLength && eqb (length R) activityLength), 13)
-    ∷ []

@@ -1,14 +1,12 @@
-// The activity record: its kind, its length, where its fields stand, what refuses its form, and what it adds to its cell.
+// The activity record: its kind, its length, where its fields stand, and what it adds to its cell.
 use rules::Totals;
-use wire::u16_at;
 use wire::u32_at;
 ghost use mathlib.Core.Path.{_≡_};
-ghost use Rattle.wire.specs.Choose.{choose};
-ghost use Rattle.activity.specs.Activity.{formCauses, totalsOf};
+ghost use Rattle.activity.specs.Activity.{totalsOf};
 
 pub const ACTIVITY_KIND: u16 = 4;
 
-const LENGTH: usize = 44;
+pub const ACTIVITY_LENGTH: usize = 44;
 
 pub const FIRM: usize = 4;
 
@@ -49,20 +47,4 @@ pub fn totals_of(record: &[u8]) -> Totals
         score: modifications + 3 * (cancellations + fak_fok + mass_requests + mass_reports),
         lots: u32_at(record, LOTS) as u64,
     }
-}
-
-// The first of 11 to 13 that refuses a record, 0 where none does.
-pub fn form_cause(record: &[u8]) -> u8
-    ensures { λ r. ⌜ r ≡ choose (formCauses (now («record» .entry))) 0 ⌝ }
-{
-    if record.len() < 4 {
-        return 11;
-    }
-    if u16_at(record, 2) != ACTIVITY_KIND {
-        return 12;
-    }
-    if (u16_at(record, 0) as usize == LENGTH) & (record.len() == LENGTH) {
-        return 0;
-    }
-    13
 }

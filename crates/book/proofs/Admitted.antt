@@ -15,9 +15,10 @@ use Rattle.calendar.specs.Calendar.{daysIn}
 use Rattle.lookup.specs.Lookup.{groupListed, firmIs, firmListed}
 use Rattle.lookup.specs.declared.Layout.{Layout}
 use Rattle.calendar.proofs.Laws.{days-most}
-use Rattle.activity.specs.Activity.{firmCode, day, totalsOf, formCauses}
+use Rattle.activity.specs.Activity.{firmCode, day, totalsOf}
+use Rattle.filing.specs.Causes.{formCauses, firmPlaceOf, groupPlaceOf, recordCauses, isCountedRecord}
 use Rattle.book.specs.Book.{width, size, grown}
-use Rattle.book.specs.Post.{recordCauses, firmPlaceOf, groupPlaceOf, indexOf, isCountedRecord, limitCause, postCause, isAdded}
+use Rattle.book.specs.Post.{indexOf, limitCause, postCause, isAdded}
 use Rattle.book.specs.declared.cells.Cell.{Cell}
 use Rattle.book.proofs.Places.{Placed, inside}
 

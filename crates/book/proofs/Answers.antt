@@ -3,8 +3,7 @@
 use Prim.Native.Nat.{ℕ}
 use mathlib.Core.Bool.{Bool, true, false, cond, not, and-false}
 use mathlib.Core.List.{List}
-use mathlib.Core.Path.{_≡_, refl, sym, _∙_}
-use native.Mathlib.Omega.{arith}
+use mathlib.Core.Path.{_≡_, refl, _∙_}
 use lib.Dec.{eqb}
 use lib.ListN.{length}
 use borrow.Author.Tests.{ne-eqb}
@@ -15,21 +14,14 @@ use Rattle.schedule.specs.Outcome.{refused, good}
 use Rattle.lookup.specs.declared.Layout.{Layout}
 use Rattle.activity.specs.Activity.{totalsOf}
 use Rattle.book.specs.Book.{cellAt, withCell, grown, checkBook}
-use Rattle.book.specs.Post.{indexOf, recordCauses, limitCause, postCause, counted, PostIs}
-use Rattle.book.specs.Filing.{AddIs, Stopped, Filable, FiledIs}
+use Rattle.filing.specs.Causes.{recordCauses}
+use Rattle.filing.proofs.Taking.{Stopped, Passing}
+use Rattle.book.specs.Post.{indexOf, limitCause, postCause, counted, AddIs, PostIs}
 use Rattle.book.specs.declared.cells.Cell.{Cell}
-use Rattle.book.specs.declared.filing.Filed.{Filed}
 use Rattle.book.specs.declared.posting.Posted.{Posted}
-use Rattle.book.specs.declared.filing.Filed.the-variants as filed
 use Rattle.book.specs.declared.posting.Posted.the-variants as posted
 
 module _ (S : List ℕ) (l : Layout) (R : List ℕ) where
-  -- two tables that come to the same file a record alike
-  pub filed-same : (cs ds : List (Bool × ℕ)) → choose cs 0 ≡ choose ds 0 → (r : Filed) → FiledIs S l R cs r → FiledIs S l R ds r
-  filed-same cs ds e (filed.Refused n) h = record { first = sym e ∙ h .first; some = h .some }
-  filed-same cs ds e filed.Outside h = record { none = sym e ∙ h .none; counted = h .counted }
-  filed-same cs ds e (filed.At i) h = (record { none = sym e ∙ h .0 .none; counted = h .0 .counted }, h .1)
-
   -- 18 decides where none of 11 to 17 refuses the record
   cause-limit : (c : Cell) → choose (recordCauses S l R) 0 ≡ 0 → postCause S l c R ≡ choose (limitCause S l c R) 0
   unfolding postCause
@@ -39,19 +31,18 @@ module _ (S B R : List ℕ) {l : Layout} (e : checkBook S (length B) ≡ good l)
   pub stopped : {n : ℕ} → Stopped S l R (recordCauses S l R) n → PostIs S B R (posted.Refused n 0) B
   unfolding postCause
   stopped {n} h =
-      let some : n ≡ 0 → ⊥ = λ z. omega (arith, h .some) in
       let c = cellAt B (indexOf S l R) in
-      let q : postCause S l c R ≡ n = choose-first (recordCauses S l R) (limitCause S l c R) (h .first) some in
-      record { answer = rw (e, q, ne-eqb n 0 some); book = rw (e, q, ne-eqb n 0 some, and-false) }
+      let q : postCause S l c R ≡ n = choose-first (recordCauses S l R) (limitCause S l c R) (h .first) (h .some) in
+      record { answer = rw (e, q, ne-eqb n 0 (h .some)); book = rw (e, q, ne-eqb n 0 (h .some), and-false) }
 
-  pub passed-over : Filable S l R (recordCauses S l R) false → PostIs S B R posted.Outside B
+  pub passed-over : Passing S l R (recordCauses S l R) false → PostIs S B R posted.Outside B
   unfolding choose
   passed-over h =
       let q = cause-limit S l R (cellAt B (indexOf S l R)) (h .none) in
       record { answer = rw (e, q, h .counted); book = rw (e, h .counted) }
 
   -- what adding to the cell came to is what the post comes to
-  pub added : {i : ℕ} {r : Posted} {B′ : List ℕ} → Filable S l R (recordCauses S l R) true → i ≡ indexOf S l R → AddIs B i (totalsOf R) r B′ → PostIs S B R r B′
+  pub added : {i : ℕ} {r : Posted} {B′ : List ℕ} → Passing S l R (recordCauses S l R) true → i ≡ indexOf S l R → AddIs B i (totalsOf R) r B′ → PostIs S B R r B′
   unfolding choose
   added {i} h p a =
       let c = cellAt B (indexOf S l R) in

@@ -1,4 +1,5 @@
--- A post: the causes that refuse a record, its answer, and the book after it (document 01, "The book and its calls" and "Numbers of refusal").
+-- A post: the causes that refuse a record, 11 to 17 of filing and 18, its answer, and the book after it (document 01, "The book and its calls" and
+-- "Numbers of refusal").
 -- S is the schedule, l what it holds, R the record, B the book.
 -- Assumes nothing.
 use Prim.Native.Nat.{ℕ}
@@ -7,65 +8,34 @@ use mathlib.Core.List.{List, [], _∷_, _++_}
 use mathlib.Core.Path.{_≡_}
 use lib.Dec.{eqb}
 use lib.ListN.{length}
-use Rattle.wire.specs.Choose.{choose, within}
+use Rattle.wire.specs.Choose.{choose}
 use Rattle.rules.specs.Verdict.{fits}
-use Rattle.calendar.specs.Calendar.{daysIn, inEffect}
-use Rattle.records.specs.Bodies.{bodyAt}
-use Rattle.lookup.specs.Lookup.{groupStart, groupPlace, groupListed, firmPlace, firmListed}
-use Rattle.contracts.specs.Counted.{contractListed, contractCounted}
+use Rattle.rules.specs.declared.Totals.{Totals}
 use Rattle.schedule.specs.Outcome.{Outcome, refused, good, follow, given}
 use Rattle.lookup.specs.declared.Layout.{Layout}
-use Rattle.activity.specs.Activity.{firmCode, day, groupFirst, groupSecond, contractOf, totalsOf, formCauses}
+use Rattle.activity.specs.Activity.{day, totalsOf}
+use Rattle.filing.specs.Causes.{firmPlaceOf, groupPlaceOf, recordCauses, isCountedRecord}
 use Rattle.book.specs.Book.{index, cellAt, withCell, grown, checkBook}
 use Rattle.book.specs.declared.cells.Cell.{Cell}
 use Rattle.book.specs.declared.posting.Posted.{Posted}
 use Rattle.book.specs.declared.posting.Posted.the-variants as posted
 
 module _ (S : List ℕ) (l : Layout) where
-  -- the place of the record's firm, from 0; past the last, where it is unlisted
-  abbrev pub firmPlaceOf : (R : List ℕ) → ℕ
-  firmPlaceOf R = firmPlace S l (firmCode R)
-
-  -- the place of its group, likewise
-  abbrev pub groupPlaceOf : (R : List ℕ) → ℕ
-  groupPlaceOf R = groupPlace S l (groupFirst R) (groupSecond R)
-
-  -- its group's body in the schedule
-  abbrev pub groupBody : (R : List ℕ) → List ℕ
-  groupBody R = bodyAt S (groupStart S (l .first) (groupPlaceOf R))
-
-  -- where its cell stands in the book
+  -- where the record's cell stands in the book
   abbrev pub indexOf : (R : List ℕ) → ℕ
-  indexOf R = index (l .groups) (firmPlaceOf R) (groupPlaceOf R) (day R)
-
-  -- Numbers of refusal, 14 to 17, against the schedule: firm unlisted; group unlisted; day 0 or past the month; contract unlisted for the group
-  abbrev pub listCauses : (R : List ℕ) → List (Bool × ℕ)
-  listCauses R =
-      (not (firmListed S l (firmCode R)), 14)
-      ∷ (not (groupListed S l (groupFirst R) (groupSecond R)), 15)
-      ∷ (not (within 1 (daysIn (l .month)) (day R)), 16)
-      ∷ (not (contractListed (groupBody R) (contractOf R)), 17)
-      ∷ []
-
-  -- Numbers of refusal, 11 to 17: all that is asked of a record but for the cell
-  abbrev pub recordCauses : (R : List ℕ) → List (Bool × ℕ)
-  recordCauses R = formCauses R ++ listCauses R
-
-  -- Post: a day in effect and a counted contract
-  abbrev pub isCountedRecord : (R : List ℕ) → Bool
-  isCountedRecord R = inEffect (l .month) (l .closed) (day R) && contractCounted (groupBody R) (contractOf R)
+  indexOf R = index (l .groups) (firmPlaceOf S l R) (groupPlaceOf S l R) (day R)
 
   -- Numbers of refusal, 18: counted, and a total of its cell c would be above 10,000,000,000 after it
   abbrev pub limitCause : (c : Cell) → (R : List ℕ) → List (Bool × ℕ)
-  limitCause c R = (isCountedRecord R && not (fits 1 (grown c (totalsOf R) .totals)), 18) ∷ []
+  limitCause c R = (isCountedRecord S l R && not (fits 1 (grown c (totalsOf R) .totals)), 18) ∷ []
 
   -- Numbers of refusal, 11 to 18, top to bottom: the first that refuses the record, whose cell is c; 0 where none does
   unfoldable pub postCause : (c : Cell) → (R : List ℕ) → ℕ
-  postCause c R = choose (recordCauses R ++ limitCause c R) 0
+  postCause c R = choose (recordCauses S l R ++ limitCause c R) 0
 
   -- the record adds to its cell c: it is counted, and no cause refuses it
   abbrev pub isAdded : (c : Cell) → (R : List ℕ) → Bool
-  isAdded c R = isCountedRecord R && eqb (postCause c R) 0
+  isAdded c R = isCountedRecord S l R && eqb (postCause c R) 0
 
 -- what a post does that isn't refused
 pub data Effect : Type 0 where
@@ -102,3 +72,8 @@ module _ (S B R : List ℕ) where
 pub record PostIs (S B R : List ℕ) (r : Posted) (B′ : List ℕ) : Type 0 where
   pub answer : postMeaning r ≡ postAnswer S B R
   pub book : B′ ≡ postBook S B R
+
+-- what adding totals a to the cell at i promises: 18, or counted
+pub record AddIs (B : List ℕ) (i : ℕ) (a : Totals) (r : Posted) (B′ : List ℕ) : Type 0 where
+  pub answer : postMeaning r ≡ cond (fits 1 (grown (cellAt B i) a .totals)) (good counted) (refused 18 0)
+  pub book : B′ ≡ cond (fits 1 (grown (cellAt B i) a .totals)) (withCell B i (grown (cellAt B i) a)) B

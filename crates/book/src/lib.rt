@@ -1,6 +1,5 @@
 // The book of posts: opening it, and posting a record of activity to it.
 mod cells;
-mod filing;
 mod opening;
 mod posting;
 

@@ -1,15 +1,18 @@
 // Posting a record to the book.
 use crate::cells::Cell;
 use crate::cells::cell_at;
+use crate::cells::cell_index;
 use crate::cells::check_book;
 use crate::cells::store_cell;
-use crate::filing::Filed;
-use crate::filing::file;
+use activity::DAY;
 use activity::totals_of;
+use filing::Filed;
+use filing::file;
 use lookup::Layout;
 use rules::LIMIT;
 use rules::Totals;
 use schedule::Checked;
+use wire::byte_at;
 ghost use mathlib.Core.Path.{_≡_};
 ghost use Prim.Native.Nat.{_+_, _≤_};
 ghost use lib.Dec.{leb};
@@ -17,8 +20,7 @@ ghost use lib.ListN.{length};
 ghost use Rattle.rules.specs.Verdict.{limit, fits};
 ghost use Rattle.schedule.specs.Outcome.{good};
 ghost use Rattle.book.specs.Book.{width, plus, checkBook};
-ghost use Rattle.book.specs.Post.{PostIs};
-ghost use Rattle.book.specs.Filing.{AddIs};
+ghost use Rattle.book.specs.Post.{AddIs, PostIs};
 
 // A refusal's number and offset, or what the post did: nothing, or the record was added to its cell.
 pub enum Posted {
@@ -74,7 +76,10 @@ fn post_checked(schedule: &[u8], l: Layout, book: &mut [u64], record: &[u8]) -> 
     match file(schedule, l, record) {
         Filed::Refused(number) => Posted::Refused { number, offset: 0 },
         Filed::Outside => Posted::Outside,
-        Filed::At(at) => add(book, at, totals_of(record)),
+        Filed::At { firm, group } => {
+            let at = cell_index(l.groups, firm, group, byte_at(record, DAY));
+            add(book, at, totals_of(record))
+        }
     }
 }
 

@@ -28,7 +28,8 @@ use Rattle.lookup.specs.declared.Layout.{Layout}
 use Rattle.schedule.proofs.Good.{good-schedule}
 use Rattle.accepted.specs.Accepted.{posted}
 use Rattle.book.specs.Book.{cellAt, checkBook, openBook}
-use Rattle.book.specs.Post.{indexOf, isCountedRecord, postCause, outside, counted, answerUnder, postAnswer, postBook}
+use Rattle.filing.specs.Causes.{isCountedRecord}
+use Rattle.book.specs.Post.{indexOf, postCause, outside, counted, answerUnder, postAnswer, postBook}
 use Rattle.book.specs.declared.cells.Cell.{Cell}
 use Rattle.book.proofs.Checked.{by-room, sized}
 use Rattle.statement.specs.Layout.{lineSize, totalsSize, bothTotals, largest}

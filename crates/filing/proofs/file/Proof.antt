@@ -12,18 +12,18 @@ use Rattle.wire.proofs.Bools.{and-right}
 use Rattle.wire.proofs.Choose.{choose-first, choose-second, Passed, passed}
 use Rattle.records.specs.Bodies.{lengthAt}
 use Rattle.activity.specs.Activity.{activityLength}
-use Rattle.activity.specs.Activity.{formCauses}
-use Rattle.book.specs.Post.{listCauses, recordCauses}
-use Rattle.book.proofs.Answers.{filed-same}
-use Rattle.book.proofs.filing.file.Statement.{statement}
-use Rattle.book.proofs.filing.file.Tie as tie
+use Rattle.filing.specs.Causes.{formCauses, listCauses}
+use Rattle.filing.specs.Filing.{takingBy}
+use Rattle.filing.proofs.Taking.{is-refused}
+use Rattle.filing.proofs.file.Statement.{statement}
+use Rattle.filing.proofs.file.Tie as tie
 
 -- past the return none of 11 to 13 refuses the record
 form-passed : (c : tie.Else1) → Passed (formCauses (now (c .before .before .before .before .args .«record»)))
 form-passed c = passed _ refl (sym (c .before .form-cause .ensures) ∙ c .if1 .left)
 
 returns : tie.Need-returns
-returns c = record { first = choose-first _ _ (sym (c .before .form-cause .ensures)) (c .if1 .taken); some = omega (arith, c .if1 .taken) }
+returns c = is-refused _ _ _ _ (choose-first _ _ (sym (c .before .form-cause .ensures)) (c .if1 .taken)) (c .if1 .taken)
 
 file-listed-requires : tie.Need-file-listed-requires
 file-listed-requires c κs =
@@ -32,12 +32,12 @@ file-listed-requires c κs =
     omega (arith, eqb-true (length R) activityLength (and-right (eqb (lengthAt R 0) activityLength) (eqb (length R) activityLength) both))
 
 returns-2 : tie.Need-returns-2
+unfolding takingBy
 returns-2 c =
     let a = c .before .before .before .before .before .args in
     let S = now (a .schedule) in
     let R = now (a .«record») in
-    let same = choose-second (formCauses R) (listCauses S (a .l) R) (form-passed (c .before)) in
-    filed-same S (a .l) R (listCauses S (a .l) R) (recordCauses S (a .l) R) (sym same) (c .file-listed .result) (c .file-listed .ensures)
+    rw (choose-second (formCauses R) (listCauses S (a .l) R) (form-passed (c .before))) (c .file-listed .ensures)
 
 pub file-spec : {M : Type 1} → statement M
 file-spec = tie.close (tie.spec (λ c κs. search needs) returns file-listed-requires returns-2)

@@ -9,11 +9,12 @@ use Rattle.wire.specs.Choose.{choose}
 use Rattle.wire.proofs.Choose.{here, next, chosen}
 use Rattle.lookup.specs.Lookup.{firmIs, firmListed, firmMeaning, groupListed, groupMeaning, groupFound}
 use Rattle.lookup.proofs.Laws.{FoundAt, firm-found, firm-unlisted, group-found, group-placed, group-unlisted}
-use Rattle.book.specs.Post.{listCauses}
 use Rattle.activity.specs.Activity.{firmCode, groupFirst, groupSecond}
-use Rattle.book.proofs.Answers.{filed-same}
-use Rattle.book.proofs.filing.file_listed.Statement.{statement}
-use Rattle.book.proofs.filing.file_listed.Tie as tie
+use Rattle.filing.specs.Causes.{listCauses}
+use Rattle.filing.specs.Filing.{takingBy}
+use Rattle.filing.proofs.Taking.{is-refused}
+use Rattle.filing.proofs.file_listed.Statement.{statement}
+use Rattle.filing.proofs.file_listed.Tie as tie
 
 -- the places that the answers go back to: the start, the firm that was found, and the search for the group
 abbrev start : tie.After-known-told → tie.Start
@@ -42,24 +43,22 @@ file-found-requires c κs =
       firmIs = sym (f .first);
       groupIs = sym (g .first);
       offsetIs = ap (λ p. p .offset) (group-placed _ _ _ _ e);
-      firmMost = f .inside;
-      groupMost = g .inside;
     }
 
 returns : tie.Need-returns
 returns c =
     let no = firm-unlisted _ _ _ (sym (ap firmMeaning (c .enum-told .given .1)) ∙ c .before .before .find-firm .ensures) in
-    record { first = chosen (here (ap not no)); some = omega arith }
+    is-refused _ _ _ _ (chosen (here (ap not no))) (λ z. omega arith)
 
 returns-2 : tie.Need-returns-2
 unfolding firmListed
 returns-2 c =
     let s = c .before .before in
     let no = group-unlisted _ _ _ _ (sym (ap groupMeaning (c .enum-told2 .given .1)) ∙ group-told s) in
-    record { first = chosen (next (ap not (firm (firm-arm s) .listed)) (here (ap not no))); some = omega arith }
+    is-refused _ _ _ _ (chosen (next (ap not (firm (firm-arm s) .listed)) (here (ap not no)))) (λ z. omega arith)
 
 returns-3 : tie.Need-returns-3
-unfolding firmListed groupListed choose
+unfolding firmListed groupListed choose takingBy
 returns-3 c =
     let s = c .before .before .before .before in
     let a = start (firm-arm s) .args in
@@ -68,10 +67,10 @@ returns-3 c =
     let f = ap not (firm (firm-arm s) .listed) in
     let g = ap not (group-found S (a .l) (groupFirst R) (groupSecond R) (sym (ap groupMeaning (c .before .before .index .given .1)) ∙ group-told s) .listed) in
     let same : choose (listCauses S (a .l) R) 0 ≡ choose (drop 2 (listCauses S (a .l) R)) 0 = rw (f, g) refl in
-    filed-same S (a .l) R (drop 2 (listCauses S (a .l) R)) (listCauses S (a .l) R) (sym same) (c .file-found .result) (c .file-found .ensures)
+    rw same (c .file-found .ensures)
 
 pub file-listed-spec : {M : Type 1} → statement M
 file-listed-spec =
-    tie.close (tie.spec (λ c. search needs) (λ c. search needs) (λ c. search needs) (λ c. search needs) (λ c κs. search needs)
-    (λ c. search needs) (λ c. search needs) (λ c κs. search needs) (λ c κs. search needs) (λ c κs. search needs)
-    (λ c. search needs) (λ c. search needs) file-found-requires returns returns-2 returns-3)
+    tie.close (tie.spec (λ c. search needs) (λ c. search needs) (λ c. search needs) (λ c κs. search needs) (λ c. search needs)
+    (λ c. search needs) (λ c κs. search needs) (λ c κs. search needs) (λ c κs. search needs) (λ c. search needs)
+    (λ c. search needs) file-found-requires returns returns-2 returns-3)

@@ -8,9 +8,9 @@ use borrow.Author.Needs.{needs}
 use borrow.Author.Tests.{lt-ltb, le-ltb, eq-eqb, ne-eqb}
 use Rattle.wire.proofs.Choose.{here, next, done, chosen}
 use Rattle.records.specs.Bodies.{kindAt}
 use Rattle.activity.specs.Activity.{activityKind}
-use Rattle.activity.proofs.form_cause.Statement.{statement}
-use Rattle.activity.proofs.form_cause.Tie as tie
+use Rattle.filing.proofs.form_cause.Statement.{statement}
+use Rattle.filing.proofs.form_cause.Tie as tie
 
 -- past 11, and past 12
 long : (c : tie.Else1) → ltb (length (now (c .before .before .args .«record»))) 4 ≡ false

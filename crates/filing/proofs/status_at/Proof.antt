@@ -1,7 +1,7 @@
 -- The body is the definition's, and so is its answer.
 use borrow.Author.Needs.{needs}
-use Rattle.book.proofs.filing.status_at.Statement.{statement}
-use Rattle.book.proofs.filing.status_at.Tie as tie
+use Rattle.filing.proofs.status_at.Statement.{statement}
+use Rattle.filing.proofs.status_at.Tie as tie
 
 returns : tie.Need-returns
 returns c = rw (c .before .body-at .ensures) at (c .contract-status .ensures)

@@ -16,9 +16,10 @@ use Rattle.contracts.specs.declared.counted.Status.{Status}
 use Rattle.contracts.specs.declared.counted.Status.the-variants as kind
 use Rattle.contracts.proofs.Status.{saysListed, saysCounted, status-listed, status-counted}
 use Rattle.activity.specs.Activity.{day, contractOf}
-use Rattle.book.specs.Post.{groupBody}
-use Rattle.book.proofs.filing.file_found.Statement.{statement}
-use Rattle.book.proofs.filing.file_found.Tie as tie
+use Rattle.filing.specs.Causes.{groupBody}
+use Rattle.filing.proofs.Taking.{is-refused, is-outside, is-counted}
+use Rattle.filing.proofs.file_found.Statement.{statement}
+use Rattle.filing.proofs.file_found.Tie as tie
 
 -- the places that the answers go back to: the start, past 16, the contract's status, and the arm of a counted contract
 abbrev start : tie.Else1 → tie.Start
@@ -59,57 +60,43 @@ module _ (c : tie.After-status-at) where
 
 returns : tie.Need-returns
 returns c =
-    record {
-      first = chosen (here (rw (c .before .before .byte-at .ensures, c .before .days-in .ensures) at (c .if1 .taken)));
-      some = omega arith;
-    }
+    is-refused _ _ _ _ (chosen (here (rw (c .before .before .byte-at .ensures, c .before .days-in .ensures) at (c .if1 .taken)))) (λ z. omega arith)
 
 returns-2 : tie.Need-returns-2
 returns-2 c =
     let s = counted-arm (c .before .before) in
     let known = listed s kind.Counted (c .before .before .enum-told3 .given .1) in
     let closed = rw (day-read (past16 s)) at (no (c .before .in-effect .ensures) (c .if2 .taken)) in
-    record { none = chosen (next (in-month (past16 s)) (next (ap not known) done)); counted = rw closed refl }
-
-cell-index-requires : tie.Need-cell-index-requires
-cell-index-requires c κs =
-    let m = past16 (counted-arm (c .before .before)) in
-    let f : start m .args .l .firms ≤ 255 = omega (arith, start m .good) in
-    let g : start m .args .l .groups ≤ 255 = omega (arith, start m .good) in
-    (omega (arith, start m .pre .firmMost), omega (arith, start m .pre .groupMost), range 1 _ _ (not-false _ (m .if1 .left)) .least)
+    is-outside _ _ _ _ (chosen (next (in-month (past16 s)) (next (ap not known) done))) (rw closed refl)
 
 returns-3 : tie.Need-returns-3
 returns-3 c =
     let s = c .before .before in
     let unknown = listed s kind.Unlisted (c .enum-told .given .1) in
-    record { first = chosen (next (in-month (past16 s)) (here (ap not unknown))); some = omega arith }
+    is-refused _ _ _ _ (chosen (next (in-month (past16 s)) (here (ap not unknown)))) (λ z. omega arith)
 
 returns-4 : tie.Need-returns-4
 returns-4 c =
     let s = c .before .before in
     let known = listed s kind.Listed (c .enum-told2 .given .1) in
-    record {
-      none = chosen (next (in-month (past16 s)) (next (ap not known) done));
-      counted = rw (taken s kind.Listed (c .enum-told2 .given .1) refl, and-false) refl;
-    }
+    is-outside _ _ _ _ (chosen (next (in-month (past16 s)) (next (ap not known) done)))
+    (rw (taken s kind.Listed (c .enum-told2 .given .1) refl, and-false) refl)
 
 returns-5 : tie.Need-returns-5
 returns-5 c =
-    let k = c .before .before .before in
+    let k = c .before .before in
     let s = counted-arm k in
-    let m = k .before .before .before .before in
-    let p = m .before .before .before .before .before .pre in
+    let m = past16 s in
+    let p = start m .pre in
     let told = k .enum-told3 .given .1 in
-    let effective = rw (day-read m) at (yes (c .before .before .in-effect .ensures) (c .before .if2 .left)) in (
-      record {
-        none = chosen (next (in-month m) (next (ap not (listed s kind.Counted told)) done));
-        counted = rw (effective, taken s kind.Counted told refl) refl;
-      },
-      rw (m .before .before .byte-at .ensures, p .firmIs, p .groupIs) at (c .cell-index .ensures),
-    )
+    let effective = rw (day-read m) at (yes (c .before .in-effect .ensures) (c .if2 .left)) in
+    is-counted _ _ _ _ (chosen (next (in-month m) (next (ap not (listed s kind.Counted told)) done)))
+    (rw (effective, taken s kind.Counted told refl) refl)
+    (p .firmIs)
+    (p .groupIs)
 
 pub file-found-spec : {M : Type 1} → statement M
 file-found-spec =
     tie.close (tie.spec (λ c κs. search needs) (λ c κs. search needs) returns (λ c κs. search needs) (λ c κs. search needs)
-    (λ c. search needs) (λ c. search needs) (λ c. search needs) (λ c κs. search needs) returns-2 cell-index-requires returns-3
+    (λ c. search needs) (λ c. search needs) (λ c. search needs) (λ c κs. search needs) returns-2 returns-3
     returns-4 returns-5)

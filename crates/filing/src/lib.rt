@@ -1,11 +1,11 @@
-// How the schedule takes a record: refused, outside, or at a place of the book.
-use crate::cells::cell_index;
+// How the schedule takes an activity record: refused, outside, or counted in the cell of a firm and a group.
+use activity::ACTIVITY_KIND;
+use activity::ACTIVITY_LENGTH;
 use activity::CONTRACT;
 use activity::DAY;
 use activity::FIRM;
 use activity::GROUP_FIRST;
 use activity::GROUP_SECOND;
-use activity::form_cause;
 use calendar::days_in;
 use calendar::in_effect;
 use contracts::Status;
@@ -21,16 +21,33 @@ use wire::u16_at;
 ghost use mathlib.Core.Path.{_≡_};
 ghost use Prim.Native.Nat.{_≤_};
 ghost use lib.ListN.{length, drop};
+ghost use Rattle.wire.specs.Choose.{choose};
 ghost use Rattle.records.specs.Bodies.{bodyAt};
 ghost use Rattle.contracts.specs.Counted.{statusMeaning, statusOf};
-ghost use Rattle.book.specs.Post.{listCauses, recordCauses};
-ghost use Rattle.book.specs.Filing.{FoundIs, FiledIs};
+ghost use Rattle.filing.specs.Causes.{formCauses, listCauses};
+ghost use Rattle.filing.specs.Filing.{filedMeaning, takingBy, taking, FoundIs};
 
-// A refusal's number, or outside, or the place of the record's cell in the book.
-pub(crate) enum Filed {
+// A refusal's number, or outside, or the places of the firm and the group whose cell the record is counted in.
+pub enum Filed {
     Refused(u8),
     Outside,
-    At(usize),
+    At { firm: usize, group: usize },
+}
+
+// The first of 11 to 13 that refuses a record, 0 where none does.
+fn form_cause(record: &[u8]) -> u8
+    ensures { λ r. ⌜ r ≡ choose (formCauses (now («record» .entry))) 0 ⌝ }
+{
+    if record.len() < 4 {
+        return 11;
+    }
+    if u16_at(record, 2) != ACTIVITY_KIND {
+        return 12;
+    }
+    if (u16_at(record, 0) as usize == ACTIVITY_LENGTH) & (record.len() == ACTIVITY_LENGTH) {
+        return 0;
+    }
+    13
 }
 
 // How the group whose record stands at a place takes a contract.
@@ -50,7 +67,7 @@ fn file_found(
     offset: usize,
 ) -> Filed
     requires { ⌜ FoundIs (now schedule) l (now «record») firm group offset ⌝ }
-    ensures { λ r. ⌜ FiledIs (now (schedule .entry)) l (now («record» .entry)) (drop 2 (listCauses (now (schedule .entry)) l (now («record» .entry)))) r ⌝ }
+    ensures { λ r. ⌜ filedMeaning r ≡ takingBy (now (schedule .entry)) l (now («record» .entry)) (drop 2 (listCauses (now (schedule .entry)) l (now («record» .entry)))) ⌝ }
 {
     let day = byte_at(record, DAY);
     if !((1 <= day) & (day <= days_in(l.month))) {
@@ -63,7 +80,7 @@ fn file_found(
             if !in_effect(l.month, l.closed, day) {
                 return Filed::Outside;
             }
-            Filed::At(cell_index(l.groups, firm, group, day))
+            Filed::At { firm, group }
         }
     }
 }
@@ -71,9 +88,9 @@ fn file_found(
 // Refusals 14 to 17, and whether the record is counted.
 fn file_listed(schedule: &[u8], l: Layout, record: &[u8]) -> Filed
     requires { ⌜ 7 ≤ length (now «record») ⌝ }
-    ensures { λ r. ⌜ FiledIs (now (schedule .entry)) l (now («record» .entry)) (listCauses (now (schedule .entry)) l (now («record» .entry))) r ⌝ }
+    ensures { λ r. ⌜ filedMeaning r ≡ takingBy (now (schedule .entry)) l (now («record» .entry)) (listCauses (now (schedule .entry)) l (now («record» .entry))) ⌝ }
 {
-    match find_firm(schedule, l, &record[FIRM..FIRM + 3]) {
+    match find_firm(schedule, l, &record[FIRM..DAY]) {
         FoundFirm::Nothing => Filed::Refused(14),
         FoundFirm::At(firm) => match find_group(
             schedule,
@@ -94,9 +111,9 @@ fn file_listed(schedule: &[u8], l: Layout, record: &[u8]) -> Filed
     }
 }
 
-// How the schedule takes a record: refusals 11 to 17, outside, or where its cell stands.
-pub(crate) fn file(schedule: &[u8], l: Layout, record: &[u8]) -> Filed
-    ensures { λ r. ⌜ FiledIs (now (schedule .entry)) l (now («record» .entry)) (recordCauses (now (schedule .entry)) l (now («record» .entry))) r ⌝ }
+// How the schedule takes a record: refusals 11 to 17, outside, or where its cell is.
+pub fn file(schedule: &[u8], l: Layout, record: &[u8]) -> Filed
+    ensures { λ r. ⌜ filedMeaning r ≡ taking (now (schedule .entry)) l (now («record» .entry)) ⌝ }
 {
     let number = form_cause(record);
     if number != 0 {

@@ -1,0 +1,55 @@
+-- How a record is taken goes by the first cause that refuses it and by whether it is counted, and tells both.
+use Prim.Native.Nat.{ℕ}
+use mathlib.Core.Bool.{Bool, true, false, cond}
+use mathlib.Core.List.{List}
+use mathlib.Core.Path.{_≡_, refl}
+use lib.Dec.{eqb}
+use borrow.Author.Tests.{eqb-true, eqb-false, ne-eqb}
+use Rattle.wire.specs.Choose.{choose}
+use Rattle.lookup.specs.declared.Layout.{Layout}
+use Rattle.filing.specs.Causes.{firmPlaceOf, groupPlaceOf, isCountedRecord}
+use Rattle.filing.specs.Filing.{Taking, refusal, outside, counted, takingBy}
+
+module _ (S : List ℕ) (l : Layout) (R : List ℕ) (cs : List (Bool × ℕ)) where
+  pub is-refused : {n : ℕ} → choose cs 0 ≡ n → (n ≡ 0 → ⊥) → refusal n ≡ takingBy S l R cs
+  unfolding takingBy
+  is-refused {n} e some = rw (e, ne-eqb n 0 some)
+
+  pub is-outside : choose cs 0 ≡ 0 → isCountedRecord S l R ≡ false → outside ≡ takingBy S l R cs
+  unfolding takingBy
+  is-outside e k = rw (e, k)
+
+  pub is-counted : {f g : ℕ} → choose cs 0 ≡ 0 → isCountedRecord S l R ≡ true → f ≡ firmPlaceOf S l R → g ≡ groupPlaceOf S l R
+      → counted f g ≡ takingBy S l R cs
+  unfolding takingBy
+  is-counted e k p q = rw (e, k, p, q)
+
+  -- what a refusal tells
+  pub record Stopped (n : ℕ) : Type 0 where
+    pub first : choose cs 0 ≡ n
+    pub some : n ≡ 0 → ⊥
+
+  -- what being outside tells, and being counted
+  pub record Passing (counts : Bool) : Type 0 where
+    pub none : choose cs 0 ≡ 0
+    pub counted : isCountedRecord S l R ≡ counts
+
+  pub record Placed (f g : ℕ) : Type 0 where
+    pub passing : Passing true
+    pub firm : f ≡ firmPlaceOf S l R
+    pub group : g ≡ groupPlaceOf S l R
+
+  abbrev Told : Taking → Type 0
+  Told (refusal n) = Stopped n
+  Told outside = Passing false
+  Told (counted f g) = Placed f g
+
+  pub told : {t : Taking} → t ≡ takingBy S l R cs → Told t
+  unfolding takingBy
+  told e = rw e (go (eqb (choose cs 0) 0) (isCountedRecord S l R) refl refl)
+    where
+      go : (b k : Bool) → eqb (choose cs 0) 0 ≡ b → isCountedRecord S l R ≡ k
+          → Told (cond b (cond k (counted (firmPlaceOf S l R) (groupPlaceOf S l R)) outside) (refusal (choose cs 0)))
+      go true true e k = record { passing = record { none = eqb-true _ _ e; counted = k }; firm = refl; group = refl }
+      go true false e k = record { none = eqb-true _ _ e; counted = k }
+      go false k e c = record { first = refl; some = eqb-false _ _ e }

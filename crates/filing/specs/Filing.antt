@@ -1,0 +1,42 @@
+-- How a schedule takes an activity record (document 01, "The book and its calls", post). S is the schedule, l what it holds, R the record.
+-- Assumes nothing.
+use Prim.Native.Nat.{ℕ}
+use mathlib.Core.Bool.{Bool, cond}
+use mathlib.Core.List.{List}
+use mathlib.Core.Path.{_≡_}
+use lib.Dec.{eqb}
+use Rattle.wire.specs.Choose.{choose}
+use Rattle.lookup.specs.Lookup.{groupStart}
+use Rattle.lookup.specs.declared.Layout.{Layout}
+use Rattle.filing.specs.Causes.{firmPlaceOf, groupPlaceOf, recordCauses, isCountedRecord}
+use Rattle.filing.specs.declared.Filed.{Filed}
+use Rattle.filing.specs.declared.Filed.the-variants as filed
+
+-- what a record comes to before its cell is asked: the number of a refusal, outside, or counted, for a firm and in a group
+pub data Taking : Type 0 where
+  refusal : (number : ℕ) → Taking
+  outside : Taking
+  counted : (firm group : ℕ) → Taking
+
+-- what the answer means
+abbrev pub filedMeaning : Filed → Taking
+filedMeaning (filed.Refused number) = refusal number
+filedMeaning filed.Outside = outside
+filedMeaning (filed.At firm group) = counted firm group
+
+module _ (S : List ℕ) (l : Layout) (R : List ℕ) where
+  -- Post: where none of these causes refuses the record it is outside, or counted
+  unfoldable pub takingBy : (causes : List (Bool × ℕ)) → Taking
+  takingBy causes =
+      let n = choose causes 0 in
+      cond (eqb n 0) (cond (isCountedRecord S l R) (counted (firmPlaceOf S l R) (groupPlaceOf S l R)) outside) (refusal n)
+
+  -- Numbers of refusal, 11 to 17
+  abbrev pub taking : Taking
+  taking = takingBy (recordCauses S l R)
+
+  -- the record's firm and group were found: their places, and where the group's record stands
+  pub record FoundIs (firm group offset : ℕ) : Type 0 where
+    pub firmIs : firm ≡ firmPlaceOf S l R
+    pub groupIs : group ≡ groupPlaceOf S l R
+    pub offsetIs : offset ≡ groupStart S (l .first) (groupPlaceOf S l R)

@@ -1,0 +1,2 @@
+pub mod Causes
+pub mod Filing
