@@ -12,7 +12,7 @@ use Rattle.wire.proofs.Choose.{sought-in, choose-most}
 use Rattle.text.specs.Text.{digitCount, decimal}
 use Rattle.statement.specs.Layout.{lineDay, lineMark, lineDollars}
 use Rattle.statement.specs.Layout.{totalsGrouping, totalsViolations, totalsMonthly, totalsAutomatic, totalsBilled, totalsDollars}
-use Rattle.text.specs.Lines.{refusedAt, heading, refusedLine, markWord, charge, counts, violationLine, totalsLine}
+use Rattle.text.specs.Lines.{refusedAt, heading, refusedLine, markWord, counts, violationLine, totalsLine}
 
 -- k digits are k bytes
 digits-length : (b k n : ℕ) → length (digits b k n) ≡ k
@@ -62,7 +62,7 @@ word-most m = choose-most length 9 _ refl (lit≤ tt)
 module _ (C : List ℕ) (three : length C ≡ 3) where
   -- the line of a violation
   pub violation-most : (L : List ℕ) → length (violationLine C L) ≤ 59
-  unfolding violationLine charge
+  unfolding violationLine
   violation-most L = simp length-append (omega (arith, decimal-most (lineDay L), word-most (lineMark L), decimal-most (lineDollars L)))
 
   -- the line of a grouping's totals

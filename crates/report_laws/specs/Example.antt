@@ -24,7 +24,7 @@ use Rattle.month.specs.Month.{anyExcess, monthAnswer}
 use Rattle.statement.specs.Lines.{lineAt, tally, shown}
 use Rattle.guarantee.specs.Example.{schedule, run, threeGroups, manyMarks}
 use Rattle.text.specs.Text.{text, decimal}
-use Rattle.text.specs.Lines.{refusedAt, heading, refusedLine, markWord, charge, counts, violationLine, totalsLine}
+use Rattle.text.specs.Lines.{refusedAt, heading, refusedLine, markWord, counts, violationLine, totalsLine}
 use Rattle.input.specs.Input.{bytesBefore, recordsFrom}
 use Rattle.report.specs.Report.{zeros, postLines, statementLines, statementOf, monthLines, report}
 use Rattle.report.specs.Answer.{whole, cut, reportAnswer, reportOutput}
@@ -84,7 +84,7 @@ unfolding posted postCause totalsOf checkBook checkOf scan ending withRecord cau
     firmListed groupListed firmIs groupIs groupStart firmOk firmFields hasCode groupInRange groupFields contractsOk contractBad before contract
     listed headOk headFields isLetter contractIs isCounted isAfter inFront contractCounted contractListed daysIn sum joined seekIn all choose u32At
     u16At code anyExcess monthAnswer lineAt tally shown firstLength cutIn bytesBefore recordsFrom decimal refusedAt heading refusedLine markWord
-    charge counts violationLine totalsLine statementLines zeros postLines statementOf monthLines report
+    counts violationLine totalsLine statementLines zeros postLines statementOf monthLines report
 example =
     record {
       wholeRun = refl;

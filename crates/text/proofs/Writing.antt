@@ -2,7 +2,7 @@
 use Prim.Native.Nat.{ℕ, _+_, _-_, _≤_, min}
 use mathlib.Core.Bool.{Bool, true, false, _&&_, and-true, and-assoc}
 use mathlib.Core.List.{List, [], _++_, append-assoc, append-nil}
-use mathlib.Core.Path.{_≡_, refl, sym, ap, ap₂, _∙_}
+use mathlib.Core.Path.{_≡_, refl, sym, ap, ap₂, subst, _∙_}
 use native.Mathlib.Nat.{le-refl, min-le-left, min-le-right, min-eq-right, min-zero, add-assoc, add-zero}
 use native.Mathlib.Omega.{arith}
 use lib.Dec.{leb, eqb}
@@ -129,6 +129,10 @@ _then_ {O} {p} {T} {U = U} w v =
           ∙ ap (λ (b : Bool). p .whole && b) (whole-then O (p .at) T U);
       output = (rw (w .output, w .next) at (v .output)) ∙ paste-then O (p .at) T U;
     }
+
+-- an equal text
+pub wrote-as : {O : List ℕ} {p : Place} {T U : List ℕ} {r : Place} {O′ : List ℕ} → T ≡ U → Wrote O p T r O′ → Wrote O p U r O′
+wrote-as {O} {p} {r = r} {O′ = O′} e w = subst (λ (T : List ℕ). Wrote O p T r O′) e w
 
 -- writing nothing
 pub wrote-none : (O : List ℕ) (p : Place) → Wrote O p [] p O

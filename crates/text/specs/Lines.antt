@@ -39,10 +39,6 @@ unfoldable pub markWord : (mark : ℕ) → List ℕ
 markWord mark =
     choose ((eqb mark 1, text "severe") ∷ (eqb mark 2, text "billed") ∷ (eqb mark 3, text "monthly") ∷ []) (text "automatic")
 
--- mark, dollars
-unfoldable pub charge : (L : List ℕ) → List ℕ
-charge L = text " " ++ markWord (lineMark L) ++ field (lineDollars L)
-
 -- the numbers of the totals in the record's order
 unfoldable pub counts : (T : List ℕ) → List ℕ
 counts T =
@@ -51,7 +47,8 @@ counts T =
 module _ (C : List ℕ) where
   -- a violation: firm, day, group, mark, dollars
   unfoldable pub violationLine : (L : List ℕ) → List ℕ
-  violationLine L = C ++ field (lineDay L) ++ text " " ++ (lineFirst L ∷ lineSecond L ∷ []) ++ charge L ++ text "\n"
+  violationLine L =
+      C ++ field (lineDay L) ++ text " " ++ (lineFirst L ∷ lineSecond L ∷ []) ++ text " " ++ markWord (lineMark L) ++ field (lineDollars L) ++ text "\n"
 
   -- totals in the record's order
   unfoldable pub totalsLine : (T : List ℕ) → List ℕ

@@ -2,6 +2,7 @@
 // writer asks for room: what has none is left out, and the place says so.
 mod lines;
 
+ghost use mathlib.Core.List.{_++_};
 ghost use mathlib.Core.Path.{_≡_};
 ghost use Prim.Native.Nat.{_-_, min};
 ghost use Rattle.text.specs.Text.{decimal, field, Wrote};
@@ -54,6 +55,15 @@ pub(crate) fn put_decimal(out: &mut [u8], place: Place, n: u64) -> Place
     let mut digits = [0u8; 20];
     let k = io::decimal(n, &mut digits);
     put(out, place, &digits[..k])
+}
+
+// Writes a text, a number and a text.
+pub(crate) fn put_number(out: &mut [u8], place: Place, before: &[u8], n: u64, after: &[u8]) -> Place
+    ensures { λ r. ⌜ Wrote (now (out .entry)) place (now (before .entry) ++ decimal n ++ now (after .entry)) r (now (out .exit)) ⌝ }
+{
+    let after_first = put(out, place, before);
+    let after_number = put_decimal(out, after_first, n);
+    put(out, after_number, after)
 }
 
 // Writes a space and a number.

@@ -1,8 +1,8 @@
 // The lines of a report.
 use crate::Place;
 use crate::put;
-use crate::put_decimal;
 use crate::put_field;
+use crate::put_number;
 use statement::LINE_DAY;
 use statement::LINE_DOLLARS;
 use statement::LINE_GROUP;
@@ -16,8 +16,10 @@ use statement::TOTALS_VIOLATIONS;
 use wire::byte_at;
 use wire::u16_at;
 use wire::u32_at;
-ghost use Rattle.text.specs.Text.{Wrote};
-ghost use Rattle.text.specs.Lines.{heading, refusedLine, refusedAt, lineText, markWord, charge, violationLine, counts, totalsLine};
+ghost use mathlib.Core.List.{_++_};
+ghost use Rattle.statement.specs.Layout.{lineMark, lineDollars};
+ghost use Rattle.text.specs.Text.{text, field, Wrote};
+ghost use Rattle.text.specs.Lines.{refusedAt, lineText, markWord, violationLine, counts, totalsLine};
 
 // A line other than a violation or totals: an input that is too long, the month's heading, a refused record, a refused schedule or book.
 pub enum Line {
@@ -43,29 +45,8 @@ const AUTOMATIC: [u8; 9] = *b"automatic";
 fn put_refused_at(out: &mut [u8], place: Place, number: u8, offset: usize) -> Place
     ensures { λ r. ⌜ Wrote (now (out .entry)) place (refusedAt number offset) r (now (out .exit)) ⌝ }
 {
-    let after_refused = put(out, place, &REFUSED);
-    let after_number = put_decimal(out, after_refused, number as u64);
-    let after_at = put(out, after_number, b" at ");
-    let after_offset = put_decimal(out, after_at, offset as u64);
-    put(out, after_offset, b"\n")
-}
-
-// Writes the heading.
-fn put_heading(out: &mut [u8], place: Place, month: u16) -> Place
-    ensures { λ r. ⌜ Wrote (now (out .entry)) place (heading month) r (now (out .exit)) ⌝ }
-{
-    let after_name = put(out, place, &HEADING);
-    let after_month = put_decimal(out, after_name, month as u64);
-    put(out, after_month, b"\n")
-}
-
-// Writes the line of a refused record.
-fn put_refused(out: &mut [u8], place: Place, number: u8) -> Place
-    ensures { λ r. ⌜ Wrote (now (out .entry)) place (refusedLine number) r (now (out .exit)) ⌝ }
-{
-    let after_refused = put(out, place, &REFUSED);
-    let after_number = put_decimal(out, after_refused, number as u64);
-    put(out, after_number, b"\n")
+    let after_number = put_number(out, place, &REFUSED, number as u64, b" at ");
+    put_number(out, after_number, b"", offset as u64, b"\n")
 }
 
 // Writes a line other than a violation or totals.
@@ -74,8 +55,8 @@ pub fn put_line(out: &mut [u8], place: Place, line: Line) -> Place
 {
     match line {
         Line::TooLong => put(out, place, b"too long\n"),
-        Line::Heading(month) => put_heading(out, place, month),
-        Line::Refused(number) => put_refused(out, place, number),
+        Line::Heading(month) => put_number(out, place, &HEADING, month as u64, b"\n"),
+        Line::Refused(number) => put_number(out, place, &REFUSED, number as u64, b"\n"),
         Line::RefusedAt { number, offset } => put_refused_at(out, place, number, offset),
     }
 }
@@ -96,26 +77,34 @@ fn put_mark(out: &mut [u8], place: Place, mark: u8) -> Place
     put(out, place, &AUTOMATIC)
 }
 
-// Writes the mark and the dollars of a line.
+// Writes the mark and the dollars of a line, and its end.
 fn put_charge(out: &mut [u8], place: Place, line: &[u8]) -> Place
-    ensures { λ r. ⌜ Wrote (now (out .entry)) place (charge (now (line .entry))) r (now (out .exit)) ⌝ }
+    ensures { λ r. ⌜ Wrote (now (out .entry)) place (markWord (lineMark (now (line .entry))) ++ field (lineDollars (now (line .entry))) ++ text "\n") r (now (out .exit)) ⌝ }
 {
-    let after_space = put(out, place, b" ");
-    let after_mark = put_mark(out, after_space, byte_at(line, LINE_MARK));
-    put_field(out, after_mark, u32_at(line, LINE_DOLLARS) as u64)
+    let after_mark = put_mark(out, place, byte_at(line, LINE_MARK));
+    put_number(
+        out,
+        after_mark,
+        b" ",
+        u32_at(line, LINE_DOLLARS) as u64,
+        b"\n",
+    )
 }
 
 // Writes the line of a violation, from the statement's line.
 pub fn put_violation(out: &mut [u8], place: Place, code: &[u8], line: &[u8]) -> Place
     ensures { λ r. ⌜ Wrote (now (out .entry)) place (violationLine (now (code .entry)) (now (line .entry))) r (now (out .exit)) ⌝ }
 {
-    let group = [byte_at(line, LINE_GROUP), byte_at(line, LINE_GROUP + 1)];
+    let group = [
+        b' ',
+        byte_at(line, LINE_GROUP),
+        byte_at(line, LINE_GROUP + 1),
+        b' ',
+    ];
     let after_code = put(out, place, code);
     let after_day = put_field(out, after_code, byte_at(line, LINE_DAY) as u64);
-    let after_space = put(out, after_day, b" ");
-    let after_group = put(out, after_space, &group);
-    let after_charge = put_charge(out, after_group, line);
-    put(out, after_charge, b"\n")
+    let after_group = put(out, after_day, &group);
+    put_charge(out, after_group, line)
 }
 
 // Writes the counts and the dollars of a totals record.
@@ -134,9 +123,8 @@ pub fn put_totals(out: &mut [u8], place: Place, code: &[u8], totals: &[u8]) -> P
     ensures { λ r. ⌜ Wrote (now (out .entry)) place (totalsLine (now (code .entry)) (now (totals .entry))) r (now (out .exit)) ⌝ }
 {
     let after_code = put(out, place, code);
-    let after_word = put(out, after_code, b" grouping");
-    let after_grouping = put_field(out, after_word, byte_at(totals, TOTALS_GROUPING) as u64);
-    let after_colon = put(out, after_grouping, b":");
-    let after_counts = put_counts(out, after_colon, totals);
+    let grouping = byte_at(totals, TOTALS_GROUPING) as u64;
+    let after_grouping = put_number(out, after_code, b" grouping ", grouping, b":");
+    let after_counts = put_counts(out, after_grouping, totals);
     put(out, after_counts, b"\n")
 }
