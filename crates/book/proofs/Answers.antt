@@ -15,7 +15,7 @@ use Rattle.lookup.specs.declared.Layout.{Layout}
 use Rattle.activity.specs.Activity.{totalsOf}
 use Rattle.book.specs.Book.{cellAt, withCell, grown, checkBook}
 use Rattle.filing.specs.Causes.{recordCauses}
-use Rattle.filing.proofs.Taking.{Stopped, Passing}
+use Rattle.filing.proofs.Told.{Stopped, Passing}
 use Rattle.book.specs.Post.{indexOf, limitCause, postCause, counted, AddIs, PostIs}
 use Rattle.book.specs.declared.cells.Cell.{Cell}
 use Rattle.book.specs.declared.posting.Posted.{Posted}

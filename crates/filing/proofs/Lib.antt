@@ -1,1 +1,1 @@
-pub mod Taking
+pub mod Told

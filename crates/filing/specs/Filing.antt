@@ -13,27 +13,27 @@ use Rattle.filing.specs.declared.Filed.{Filed}
 use Rattle.filing.specs.declared.Filed.the-variants as filed
 
 -- what a record comes to before its cell is asked: the number of a refusal, outside, or counted, for a firm and in a group
-pub data Taking : Type 0 where
-  refusal : (number : ℕ) → Taking
-  outside : Taking
-  counted : (firm group : ℕ) → Taking
+pub data Filing : Type 0 where
+  refusedBy : (number : ℕ) → Filing
+  isOutside : Filing
+  countedIn : (firm group : ℕ) → Filing
 
 -- what the answer means
-abbrev pub filedMeaning : Filed → Taking
-filedMeaning (filed.Refused number) = refusal number
-filedMeaning filed.Outside = outside
-filedMeaning (filed.At firm group) = counted firm group
+abbrev pub filedMeaning : Filed → Filing
+filedMeaning (filed.Refused number) = refusedBy number
+filedMeaning filed.Outside = isOutside
+filedMeaning (filed.At firm group) = countedIn firm group
 
 module _ (S : List ℕ) (l : Layout) (R : List ℕ) where
   -- Post: where none of these causes refuses the record it is outside, or counted
-  unfoldable pub takingBy : (causes : List (Bool × ℕ)) → Taking
-  takingBy causes =
+  unfoldable pub filingBy : (causes : List (Bool × ℕ)) → Filing
+  filingBy causes =
       let n = choose causes 0 in
-      cond (eqb n 0) (cond (isCountedRecord S l R) (counted (firmPlaceOf S l R) (groupPlaceOf S l R)) outside) (refusal n)
+      cond (eqb n 0) (cond (isCountedRecord S l R) (countedIn (firmPlaceOf S l R) (groupPlaceOf S l R)) isOutside) (refusedBy n)
 
   -- Numbers of refusal, 11 to 17
-  abbrev pub taking : Taking
-  taking = takingBy (recordCauses S l R)
+  abbrev pub filingOf : Filing
+  filingOf = filingBy (recordCauses S l R)
 
   -- the record's firm and group were found: their places, and where the group's record stands
   pub record FoundIs (firm group offset : ℕ) : Type 0 where

@@ -25,7 +25,7 @@ ghost use Rattle.wire.specs.Choose.{choose};
 ghost use Rattle.records.specs.Bodies.{bodyAt};
 ghost use Rattle.contracts.specs.Counted.{statusMeaning, statusOf};
 ghost use Rattle.filing.specs.Causes.{formCauses, listCauses};
-ghost use Rattle.filing.specs.Filing.{filedMeaning, takingBy, taking, FoundIs};
+ghost use Rattle.filing.specs.Filing.{filedMeaning, filingBy, filingOf, FoundIs};
 
 // A refusal's number, or outside, or the places of the firm and the group whose cell the record is counted in.
 pub enum Filed {
@@ -67,7 +67,7 @@ fn file_found(
     offset: usize,
 ) -> Filed
     requires { ⌜ FoundIs (now schedule) l (now «record») firm group offset ⌝ }
-    ensures { λ r. ⌜ filedMeaning r ≡ takingBy (now (schedule .entry)) l (now («record» .entry)) (drop 2 (listCauses (now (schedule .entry)) l (now («record» .entry)))) ⌝ }
+    ensures { λ r. ⌜ filedMeaning r ≡ filingBy (now (schedule .entry)) l (now («record» .entry)) (drop 2 (listCauses (now (schedule .entry)) l (now («record» .entry)))) ⌝ }
 {
     let day = byte_at(record, DAY);
     if !((1 <= day) & (day <= days_in(l.month))) {
@@ -88,7 +88,7 @@ fn file_found(
 // Refusals 14 to 17, and whether the record is counted.
 fn file_listed(schedule: &[u8], l: Layout, record: &[u8]) -> Filed
     requires { ⌜ 7 ≤ length (now «record») ⌝ }
-    ensures { λ r. ⌜ filedMeaning r ≡ takingBy (now (schedule .entry)) l (now («record» .entry)) (listCauses (now (schedule .entry)) l (now («record» .entry))) ⌝ }
+    ensures { λ r. ⌜ filedMeaning r ≡ filingBy (now (schedule .entry)) l (now («record» .entry)) (listCauses (now (schedule .entry)) l (now («record» .entry))) ⌝ }
 {
     match find_firm(schedule, l, &record[FIRM..DAY]) {
         FoundFirm::Nothing => Filed::Refused(14),
@@ -113,7 +113,7 @@ fn file_listed(schedule: &[u8], l: Layout, record: &[u8]) -> Filed
 
 // How the schedule takes a record: refusals 11 to 17, outside, or where its cell is.
 pub fn file(schedule: &[u8], l: Layout, record: &[u8]) -> Filed
-    ensures { λ r. ⌜ filedMeaning r ≡ taking (now (schedule .entry)) l (now («record» .entry)) ⌝ }
+    ensures { λ r. ⌜ filedMeaning r ≡ filingOf (now (schedule .entry)) l (now («record» .entry)) ⌝ }
 {
     let number = form_cause(record);
     if number != 0 {

@@ -13,8 +13,8 @@ use Rattle.wire.proofs.Choose.{choose-first, choose-second, Passed, passed}
 use Rattle.records.specs.Bodies.{lengthAt}
 use Rattle.activity.specs.Activity.{activityLength}
 use Rattle.filing.specs.Causes.{formCauses, listCauses}
-use Rattle.filing.specs.Filing.{takingBy}
-use Rattle.filing.proofs.Taking.{is-refused}
+use Rattle.filing.specs.Filing.{filingBy}
+use Rattle.filing.proofs.Told.{is-refused}
 use Rattle.filing.proofs.file.Statement.{statement}
 use Rattle.filing.proofs.file.Tie as tie
 
@@ -32,7 +32,7 @@ file-listed-requires c κs =
     omega (arith, eqb-true (length R) activityLength (and-right (eqb (lengthAt R 0) activityLength) (eqb (length R) activityLength) both))
 
 returns-2 : tie.Need-returns-2
-unfolding takingBy
+unfolding filingBy
 returns-2 c =
     let a = c .before .before .before .before .before .args in
     let S = now (a .schedule) in

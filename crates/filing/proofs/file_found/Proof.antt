@@ -17,7 +17,7 @@ use Rattle.contracts.specs.declared.counted.Status.the-variants as kind
 use Rattle.contracts.proofs.Status.{saysListed, saysCounted, status-listed, status-counted}
 use Rattle.activity.specs.Activity.{day, contractOf}
 use Rattle.filing.specs.Causes.{groupBody}
-use Rattle.filing.proofs.Taking.{is-refused, is-outside, is-counted}
+use Rattle.filing.proofs.Told.{is-refused, is-outside, is-counted}
 use Rattle.filing.proofs.file_found.Statement.{statement}
 use Rattle.filing.proofs.file_found.Tie as tie
 

@@ -11,8 +11,8 @@ use Rattle.lookup.specs.Lookup.{firmIs, firmListed, firmMeaning, groupListed, g
 use Rattle.lookup.proofs.Laws.{FoundAt, firm-found, firm-unlisted, group-found, group-placed, group-unlisted}
 use Rattle.activity.specs.Activity.{firmCode, groupFirst, groupSecond}
 use Rattle.filing.specs.Causes.{listCauses}
-use Rattle.filing.specs.Filing.{takingBy}
-use Rattle.filing.proofs.Taking.{is-refused}
+use Rattle.filing.specs.Filing.{filingBy}
+use Rattle.filing.proofs.Told.{is-refused}
 use Rattle.filing.proofs.file_listed.Statement.{statement}
 use Rattle.filing.proofs.file_listed.Tie as tie
 
@@ -58,7 +58,7 @@ returns-2 c =
     is-refused _ _ _ _ (chosen (next (ap not (firm (firm-arm s) .listed)) (here (ap not no)))) (λ z. omega arith)
 
 returns-3 : tie.Need-returns-3
-unfolding firmListed groupListed choose takingBy
+unfolding firmListed groupListed choose filingBy
 returns-3 c =
     let s = c .before .before .before .before in
     let a = start (firm-arm s) .args in

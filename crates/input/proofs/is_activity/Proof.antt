@@ -3,8 +3,5 @@ use borrow.Author.Needs.{needs}
 use Rattle.input.proofs.is_activity.Statement.{statement}
 use Rattle.input.proofs.is_activity.Tie as tie
 
-returns : tie.Need-returns
-returns c = rw (c .u16-at .ensures)
-
 pub is-activity-spec : {M : Type 1} → statement M
-is-activity-spec = tie.close (tie.spec (λ c κs. search needs) returns)
+is-activity-spec = tie.close (tie.spec (λ c κs. search needs) (λ c. rw (c .u16-at .ensures)))

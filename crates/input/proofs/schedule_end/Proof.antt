@@ -40,15 +40,6 @@ test-first : (c : tie.After-is-activity Inv-loop μ-loop)
     → (let S = left (c .before .before .before .before) in c .is-activity .result ≡ isActivity (take (firstLength S) S))
 test-first c = rw (add-sub-cancel-left, measured (c .before .before) .first) at (c .is-activity .ensures)
 
-loop-holds : tie.Need-loop-holds Inv-loop μ-loop
-loop-holds c = (omega arith, omega arith)
-
-add-is-activity : tie.Need-add-is-activity Inv-loop μ-loop
-add-is-activity c = omega (arith, measured c)
-
-part-is-activity-end : tie.Need-part-is-activity-end Inv-loop μ-loop
-part-is-activity-end c = omega (arith, measured c)
-
 add-at : tie.Need-add-at Inv-loop μ-loop
 add-at c = omega (arith, measured (c .before .before .before))
 
@@ -77,6 +68,6 @@ returns-2 c =
 
 pub schedule-end-spec : {M : Type 1} → statement M
 schedule-end-spec =
-    tie.close (tie.spec Inv-loop μ-loop loop-holds (λ c. search needs) (λ c. search needs) (λ c. search needs)
-    (λ c κs. search needs) add-is-activity (λ c. search needs) (λ c. search needs) part-is-activity-end (λ c κs. search needs)
-    add-at loop-less loop-again returns returns-2)
+    tie.close (tie.spec Inv-loop μ-loop (λ c. (omega arith, omega arith)) (λ c. search needs) (λ c. search needs)
+    (λ c. search needs) (λ c κs. search needs) (λ c. omega (arith, measured c)) (λ c. search needs) (λ c. search needs)
+    (λ c. omega (arith, measured c)) (λ c κs. search needs) add-at loop-less loop-again returns returns-2)

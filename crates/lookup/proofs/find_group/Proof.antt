@@ -20,9 +20,6 @@ Inv-loop schedule x y n i₀ at₀ i at =
 abbrev μ-loop : tie.MeasureT-loop
 μ-loop schedule x y n i₀ at₀ i at = n - i
 
-loop-holds : tie.Need-loop-holds Inv-loop μ-loop
-loop-holds c = (search needs, search needs, sym (group-first _ _), refl)
-
 returns : tie.Need-returns Inv-loop μ-loop
 unfolding groupFound groupListed groupIs
 returns c =
@@ -52,5 +49,6 @@ returns-2 c =
 
 pub find-group-spec : {M : Type 1} → statement M
 find-group-spec =
-    tie.close (tie.spec Inv-loop μ-loop (λ c. search needs) (λ c. search needs) loop-holds (λ c κs. search needs) returns
-    (λ c κs. search needs) (λ c. search needs) (λ c. search needs) (λ c. search needs) (λ c. search needs) loop-again returns-2)
+    tie.close (tie.spec Inv-loop μ-loop (λ c. search needs) (λ c. search needs)
+    (λ c. (search needs, search needs, sym (group-first _ _), refl)) (λ c κs. search needs) returns (λ c κs. search needs)
+    (λ c. search needs) (λ c. search needs) (λ c. search needs) (λ c. search needs) loop-again returns-2)

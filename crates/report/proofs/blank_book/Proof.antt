@@ -4,9 +4,6 @@ use Rattle.report.specs.Report.{zeros}
 use Rattle.report.proofs.blank_book.Statement.{statement}
 use Rattle.report.proofs.blank_book.Tie as tie
 
-returns : tie.Need-returns
-unfolding zeros
-returns c = refl
-
 pub blank-book-spec : {M : Type 1} → statement M
-blank-book-spec = tie.close (tie.spec returns)
+unfolding zeros
+blank-book-spec = tie.close (tie.spec (λ c. refl))

@@ -46,18 +46,6 @@ module _ (c : tie.After-schedule-end) where
 abbrev ended : tie.After-put-month-arg2 → tie.After-schedule-end
 ended c = c .before .before .before .before .before .before .before
 
-slice-aggregate-check-book : tie.Need-slice-aggregate-check-book
-slice-aggregate-check-book c = sized (c .before)
-
-slice-aggregate-put-month : tie.Need-slice-aggregate-put-month
-slice-aggregate-put-month c = sized (ended c)
-
-sub-put-month : tie.Need-sub-put-month
-sub-put-month c = within (ended c)
-
-part-put-month-start : tie.Need-part-put-month-start
-part-put-month-start c = within (ended c)
-
 returns-2 : tie.Need-returns-2
 unfolding report
 returns-2 c =
@@ -80,6 +68,7 @@ returns-3 c =
 
 pub put-report-spec : {M : Type 1} → statement M
 put-report-spec =
-    tie.close (tie.spec (λ c. search needs) (λ c. search needs) returns (λ c. search needs) slice-aggregate-check-book
-    (λ c. search needs) (λ c. search needs) (λ c. search needs) (λ c. search needs) slice-aggregate-put-month sub-put-month
-    part-put-month-start (λ c. search needs) (λ c. search needs) (λ c. search needs) returns-2 (λ c. search needs) returns-3)
+    tie.close (tie.spec (λ c. search needs) (λ c. search needs) returns (λ c. search needs) (λ c. sized (c .before))
+    (λ c. search needs) (λ c. search needs) (λ c. search needs) (λ c. search needs) (λ c. sized (ended c))
+    (λ c. within (ended c)) (λ c. within (ended c)) (λ c. search needs) (λ c. search needs) (λ c. search needs) returns-2
+    (λ c. search needs) returns-3)

@@ -29,9 +29,6 @@ slice-write-out c =
     let turn = c .before .before in
     omega (arith, turn .before .room .ensures, c .before .loop-test .taken, turn .loop .inv .2)
 
-loop-less : tie.Need-loop-less Inv-loop μ-loop
-loop-less c = omega (arith, c .before .loop-test .taken)
-
 loop-again : tie.Need-loop-again Inv-loop μ-loop
 loop-again c =
     let turn = c .before .before in
@@ -43,9 +40,6 @@ loop-again c =
       omega (arith, test),
       rw length-set (turn .loop .inv .2),
     )
-
-same-length : tie.Need-same-length Inv-loop μ-loop
-same-length c = c .before .before .loop .inv .2
 
 returns : tie.Need-returns Inv-loop μ-loop
 returns c =
@@ -61,4 +55,5 @@ returns c =
 pub put-spec : {M : Type 1} → statement M
 put-spec =
     tie.close (tie.spec Inv-loop μ-loop (λ c κs. search needs) loop-holds shared-slice-read-out (λ c. search needs)
-    slice-write-out (λ c. search needs) loop-less loop-again (λ c. search needs) same-length returns)
+    slice-write-out (λ c. search needs) (λ c. omega (arith, c .before .loop-test .taken)) loop-again (λ c. search needs)
+    (λ c. c .before .before .loop .inv .2) returns)

@@ -16,9 +16,6 @@ Inv-loop numbers₀ n value most i₀ numbers i = (i ≤ most) × (numbers ≡ o
 abbrev μ-loop : tie.MeasureT-loop
 μ-loop numbers₀ n value most i₀ numbers i = most - i
 
-loop-holds : tie.Need-loop-holds Inv-loop μ-loop
-loop-holds c = rw joined-none (omega arith, refl)
-
 slice-write-numbers : tie.Need-slice-write-numbers Inv-loop μ-loop
 slice-write-numbers c = rw (c .before .loop .inv .1) (simp (length-append, length-drop, length-table) (omega arith))
 
@@ -38,5 +35,5 @@ returns c =
 
 pub fill-spec : {M : Type 1} → statement M
 fill-spec =
-    tie.close (tie.spec Inv-loop μ-loop (λ c κs. search needs) loop-holds (λ c. search needs) slice-write-numbers
-    (λ c. search needs) (λ c. search needs) loop-again same-length returns)
+    tie.close (tie.spec Inv-loop μ-loop (λ c κs. search needs) (λ c. rw joined-none (omega arith, refl)) (λ c. search needs)
+    slice-write-numbers (λ c. search needs) (λ c. search needs) loop-again same-length returns)

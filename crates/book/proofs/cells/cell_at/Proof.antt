@@ -3,10 +3,8 @@ use borrow.Author.Needs.{needs}
 use Rattle.book.proofs.cells.cell_at.Statement.{statement}
 use Rattle.book.proofs.cells.cell_at.Tie as tie
 
-returns : tie.Need-returns
-returns c = rw (c .before .before .number-at .ensures, c .before .number-at2 .ensures, c .number-at3 .ensures)
-
 pub cell-at-spec : {M : Type 1} → statement M
 cell-at-spec =
     tie.close (tie.spec (λ c κs. search needs) (λ c. search needs) (λ c κs. search needs) (λ c. search needs)
-    (λ c κs. search needs) returns)
+    (λ c κs. search needs)
+    (λ c. rw (c .before .before .number-at .ensures, c .before .number-at2 .ensures, c .number-at3 .ensures)))

@@ -12,21 +12,7 @@ row-most c =
     let g : c .args .groups ≤ 255 = search needs in
     mul-le-mul f g
 
-mul-row : tie.Need-mul-row
-mul-row c = omega (arith, row-most c)
-
-add-row : tie.Need-add-row
-add-row c = omega (arith, row-most c)
-
-mul-result : tie.Need-mul-result
-mul-result c = omega (arith, row-most c)
-
-add-result : tie.Need-add-result
-add-result c = omega (arith, row-most c)
-
-mul-result-2 : tie.Need-mul-result-2
-mul-result-2 c = omega (arith, row-most c)
-
 pub cell-index-spec : {M : Type 1} → statement M
 cell-index-spec =
-    tie.close (tie.spec mul-row add-row mul-result add-result (λ c. search needs) mul-result-2 (λ c. search needs))
+    tie.close (tie.spec (λ c. omega (arith, row-most c)) (λ c. omega (arith, row-most c)) (λ c. omega (arith, row-most c))
+    (λ c. omega (arith, row-most c)) (λ c. search needs) (λ c. omega (arith, row-most c)) (λ c. search needs))

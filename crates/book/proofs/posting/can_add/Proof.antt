@@ -4,9 +4,7 @@ use Rattle.wire.proofs.Choose.{and-all}
 use Rattle.book.proofs.posting.can_add.Statement.{statement}
 use Rattle.book.proofs.posting.can_add.Tie as tie
 
-returns : tie.Need-returns
-returns c = rw (c .before .before .has-room .ensures, c .before .has-room2 .ensures, c .has-room3 .ensures) (and-all _ _)
-
 pub can-add-spec : {M : Type 1} → statement M
 can-add-spec =
-    tie.close (tie.spec (λ c κs. search needs) (λ c κs. search needs) (λ c κs. search needs) returns)
+    tie.close (tie.spec (λ c κs. search needs) (λ c κs. search needs) (λ c κs. search needs)
+    (λ c. rw (c .before .before .has-room .ensures, c .before .has-room2 .ensures, c .has-room3 .ensures) (and-all _ _)))

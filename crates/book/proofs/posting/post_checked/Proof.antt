@@ -7,7 +7,7 @@ use borrow.Author.Needs.{needs}
 use Rattle.wire.proofs.Choose.{passed}
 use Rattle.filing.specs.Causes.{recordCauses}
 use Rattle.filing.specs.Filing.{filedMeaning}
-use Rattle.filing.proofs.Taking.{Placed, told}
+use Rattle.filing.proofs.Told.{Located, told}
 use Rattle.book.specs.Book.{index}
 use Rattle.book.specs.Post.{indexOf}
 use Rattle.book.proofs.Checked.{sized}
@@ -26,7 +26,7 @@ filing c = c .before .before .before
 -- in that arm it has a firm and a group, and passed 11 to 17
 module _ (c : tie.After-known-told2) where
   placed : let a = start (filing c) .args in let S = now (a .schedule) in let R = now (a .«record») in
-      Placed S (a .l) R (recordCauses S (a .l) R) (c .before .firm .given .0 .0) (c .before .firm .given .0 .1 .0)
+      Located S (a .l) R (recordCauses S (a .l) R) (c .before .firm .given .0 .0) (c .before .firm .given .0 .1 .0)
   placed = told _ _ _ _ (sym (ap filedMeaning (c .before .firm .given .1)) ∙ filing c .file .ensures)
 
   passes : let a = start (filing c) .args in Admitted (now (a .schedule)) (a .l) (now (a .«record»))

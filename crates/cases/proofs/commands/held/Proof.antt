@@ -6,8 +6,5 @@ use borrow.Author.Needs.{needs}
 use Rattle.cases.proofs.commands.held.Statement.{statement}
 use Rattle.cases.proofs.commands.held.Tie as tie
 
-returns : tie.Need-returns
-returns c = (omega arith, sym (length-take-le _ _ (omega arith)))
-
 pub held-spec : {M : Type 1} → statement M
-held-spec = tie.close (tie.spec (λ c κs. search needs) returns)
+held-spec = tie.close (tie.spec (λ c κs. search needs) (λ c. (omega arith, sym (length-take-le _ _ (omega arith)))))

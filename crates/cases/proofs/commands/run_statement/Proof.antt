@@ -7,15 +7,9 @@ use borrow.Author.Needs.{needs}
 use Rattle.cases.proofs.commands.run_statement.Statement.{statement}
 use Rattle.cases.proofs.commands.run_statement.Tie as tie
 
-slice-aggregate-print-statement-2 : tie.Need-slice-aggregate-print-statement-2
-slice-aggregate-print-statement-2 c = sym (length-take-le _ _ (omega arith))
-
-print-statement-requires : tie.Need-print-statement-requires
-print-statement-requires c κs = simp length-take (omega arith)
-
 pub run-statement-spec : {M : Type 1} → statement M
 run-statement-spec =
     tie.close (tie.spec (λ c κs. search needs) (λ c κs. search needs) (λ c. search needs) (λ c. search needs)
     (λ c κs. search needs) (λ c. search needs) (λ c κs. search needs) (λ c κs. search needs) (λ c κs. search needs)
-    (λ c κs. search needs) (λ c. search needs) (λ c. search needs) slice-aggregate-print-statement-2 print-statement-requires
-    (λ c κs. search needs) (λ c. search needs))
+    (λ c κs. search needs) (λ c. search needs) (λ c. search needs) (λ c. sym (length-take-le _ _ (omega arith)))
+    (λ c κs. simp length-take (omega arith)) (λ c κs. search needs) (λ c. search needs))

@@ -17,9 +17,6 @@ Inv-loop book digest₀ i₀ digest i = (digest < modulus) × (digestOf 0 book �
 abbrev μ-loop : tie.MeasureT-loop
 μ-loop book digest₀ i₀ digest i = length book - i
 
-loop-holds : tie.Need-loop-holds Inv-loop μ-loop
-loop-holds c = (omega arith, refl)
-
 loop-again : tie.Need-loop-again Inv-loop μ-loop
 unfolding digestOf
 loop-again c =
@@ -36,5 +33,5 @@ returns c =
 
 pub digest-of-spec : {M : Type 1} → statement M
 digest-of-spec =
-    tie.close (tie.spec Inv-loop μ-loop loop-holds (λ c. search needs) (λ c. search needs) (λ c κs. search needs)
-    (λ c. search needs) (λ c. search needs) loop-again returns)
+    tie.close (tie.spec Inv-loop μ-loop (λ c. (omega arith, refl)) (λ c. search needs) (λ c. search needs)
+    (λ c κs. search needs) (λ c. search needs) (λ c. search needs) loop-again returns)

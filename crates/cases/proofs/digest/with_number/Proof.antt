@@ -14,10 +14,7 @@ by-parts m d n =
     simp (add-mul, mul-assoc) (omega (arith, div-add-mod' (8 * d) m, div-add-mod' (7 * d) m, div-add-mod' n m)) in
     rw e (sym (add-mul-mod-self-right _ _ m))
 
-returns : tie.Need-returns
-returns c = by-parts modulus (c .args .digest) (c .args .n)
-
 pub with-number-spec : {M : Type 1} → statement M
 with-number-spec =
     tie.close (tie.spec (λ c. search needs) (λ c. search needs) (λ c. search needs) (λ c. search needs) (λ c. search needs)
-    returns)
+    (λ c. by-parts modulus (c .args .digest) (c .args .n)))

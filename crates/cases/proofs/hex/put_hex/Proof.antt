@@ -17,9 +17,6 @@ Inv-loop bytes text₀ i₀ text i = (i ≤ 2 * length bytes) × (length text �
 abbrev μ-loop : tie.MeasureT-loop
 μ-loop bytes text₀ i₀ text i = 2 * length bytes - i
 
-loop-holds : tie.Need-loop-holds Inv-loop μ-loop
-loop-holds c = rw joined-none (omega arith, refl, refl)
-
 loop-again : tie.Need-loop-again Inv-loop μ-loop
 loop-again c =
     let l = c .before .before .loop in
@@ -38,5 +35,5 @@ returns c =
 
 pub put-hex-spec : {M : Type 1} → statement M
 put-hex-spec =
-    tie.close (tie.spec Inv-loop μ-loop loop-holds (λ c. search needs) (λ c κs. search needs) (λ c. search needs)
-    (λ c. search needs) (λ c. search needs) loop-again (λ c. search needs) returns)
+    tie.close (tie.spec Inv-loop μ-loop (λ c. rw joined-none (omega arith, refl, refl)) (λ c. search needs)
+    (λ c κs. search needs) (λ c. search needs) (λ c. search needs) (λ c. search needs) loop-again (λ c. search needs) returns)

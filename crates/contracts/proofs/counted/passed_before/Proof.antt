@@ -39,18 +39,6 @@ abbrev μ-loop : tie.MeasureT-loop
 loop-holds : tie.Need-loop-holds Inv-loop μ-loop
 loop-holds c = (search needs, search needs, search needs, sym (sum-none _), sym (sum-none _))
 
-add-extra : tie.Need-add-extra Inv-loop μ-loop
-unfolding listed
-add-extra c = omega arith
-
-add-front : tie.Need-add-front Inv-loop μ-loop
-unfolding listed
-add-front c = omega arith
-
-add-i : tie.Need-add-i Inv-loop μ-loop
-unfolding listed
-add-i c = omega arith
-
 loop-again : tie.Need-loop-again Inv-loop μ-loop
 loop-again c =
     let l = c .before .before .before .before .before .before in
@@ -71,7 +59,8 @@ returns c =
     rw (← e) (record { front = l .inv .3; extra = l .inv .4 })
 
 pub passed-before-spec : {M : Type 1} → statement M
+unfolding listed
 passed-before-spec =
     tie.close (tie.spec Inv-loop μ-loop loop-holds (λ c κs. search needs) (λ c κs. search needs) (λ c κs. search needs)
-    (λ c. search needs) add-extra (λ c κs. search needs) (λ c κs. search needs) (λ c. search needs) add-front add-i
+    (λ c. search needs) (λ c. omega arith) (λ c κs. search needs) (λ c κs. search needs) (λ c. search needs) (λ c. omega arith) (λ c. omega arith)
     (λ c. search needs) loop-again returns)

@@ -3,10 +3,8 @@ use borrow.Author.Needs.{needs}
 use Rattle.month.proofs.days.excess_at.Statement.{statement}
 use Rattle.month.proofs.days.excess_at.Tie as tie
 
-returns : tie.Need-returns
-returns c = rw (c .fits2 .ensures, c .before .days-in .ensures, c .before .before .totals-in .ensures)
-
 pub excess-at-spec : {M : Type 1} → statement M
 excess-at-spec =
-    tie.close (tie.spec (λ c. search needs) (λ c. search needs) (λ c. search needs) (λ c κs. search needs) (λ c κs. search needs)
-    (λ c κs. search needs) returns)
+    tie.close (tie.spec (λ c. search needs) (λ c. search needs) (λ c. search needs) (λ c κs. search needs)
+    (λ c κs. search needs) (λ c κs. search needs)
+    (λ c. rw (c .fits2 .ensures, c .before .days-in .ensures, c .before .before .totals-in .ensures)))

@@ -19,9 +19,6 @@ Inv-loop schedule l book firm starts codes₀ i₀ codes i = (i ≤ 992) × (cod
 abbrev μ-loop : tie.MeasureT-loop
 μ-loop schedule l book firm starts codes₀ i₀ codes i = 992 - i
 
-loop-holds : tie.Need-loop-holds Inv-loop μ-loop
-loop-holds c = rw joined-none (omega arith, refl)
-
 loop-again : tie.Need-loop-again Inv-loop μ-loop
 loop-again c =
     let l = c .before .before in (
@@ -38,5 +35,5 @@ returns c =
 
 pub fill-codes-spec : {M : Type 1} → statement M
 fill-codes-spec =
-    tie.close (tie.spec Inv-loop μ-loop loop-holds (λ c κs. search needs) (λ c. search needs) (λ c. search needs)
-    (λ c. search needs) loop-again returns)
+    tie.close (tie.spec Inv-loop μ-loop (λ c. rw joined-none (omega arith, refl)) (λ c κs. search needs) (λ c. search needs)
+    (λ c. search needs) (λ c. search needs) loop-again returns)

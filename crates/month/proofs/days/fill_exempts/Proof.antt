@@ -20,9 +20,6 @@ Inv-loop schedule l book firm starts exempts₀ g₀ exempts g = (g ≤ 32) × (
 abbrev μ-loop : tie.MeasureT-loop
 μ-loop schedule l book firm starts exempts₀ g₀ exempts g = 32 - g
 
-loop-holds : tie.Need-loop-holds Inv-loop μ-loop
-loop-holds c = rw joined-none (omega arith, refl)
-
 loop-again : tie.Need-loop-again Inv-loop μ-loop
 loop-again c =
     let l = c .before .before in (
@@ -39,5 +36,5 @@ returns c =
 
 pub fill-exempts-spec : {M : Type 1} → statement M
 fill-exempts-spec =
-    tie.close (tie.spec Inv-loop μ-loop loop-holds (λ c κs. search needs) (λ c. search needs) (λ c. search needs)
-    (λ c. search needs) loop-again returns)
+    tie.close (tie.spec Inv-loop μ-loop (λ c. rw joined-none (omega arith, refl)) (λ c κs. search needs) (λ c. search needs)
+    (λ c. search needs) (λ c. search needs) loop-again returns)

@@ -70,13 +70,10 @@ returns c =
     let a = c .before .before .before .before .args in
     sym (exempt-past (a .schedule .now) (a .l) (a .book .now) (a .firm) (a .g) (c .if1 .taken))
 
-code-of-requires : tie.Need-code-of-requires
-code-of-requires c κs = small c
-
 returns-2 : tie.Need-returns-2
 returns-2 c = ap not (c .is-violation .ensures ∙ ap isViolation (c .before .code-of .ensures)) ∙ says (c .before .before)
 
 pub is-exempt-spec : {M : Type 1} → statement M
 is-exempt-spec =
     tie.close (tie.spec (λ c. search needs) returns (λ c κs. search needs) (λ c. search needs) (λ c. search needs)
-    (λ c κs. search needs) (λ c κs. search needs) code-of-requires (λ c κs. search needs) returns-2)
+    (λ c κs. search needs) (λ c κs. search needs) (λ c κs. small c) (λ c κs. search needs) returns-2)

@@ -22,9 +22,6 @@ Inv-loop schedule l book firm group sums₀ d₀ sums d = (d ≤ 31) × (sums �
 abbrev μ-loop : tie.MeasureT-loop
 μ-loop schedule l book firm group sums₀ d₀ sums d = 31 - d
 
-loop-holds : tie.Need-loop-holds Inv-loop μ-loop
-loop-holds c = rw sums-none (omega arith, refl)
-
 with-cell-requires : tie.Need-with-cell-requires Inv-loop μ-loop
 with-cell-requires c κs =
     let l = c .before .before .before .before in
@@ -52,5 +49,5 @@ returns c =
 
 pub month-sums-spec : {M : Type 1} → statement M
 month-sums-spec =
-    tie.close (tie.spec Inv-loop μ-loop loop-holds (λ c. search needs) (λ c κs. search needs) (λ c. search needs)
-    (λ c κs. search needs) with-cell-requires (λ c. search needs) (λ c. search needs) loop-again returns)
+    tie.close (tie.spec Inv-loop μ-loop (λ c. rw sums-none (omega arith, refl)) (λ c. search needs) (λ c κs. search needs)
+    (λ c. search needs) (λ c κs. search needs) with-cell-requires (λ c. search needs) (λ c. search needs) loop-again returns)

@@ -4,10 +4,6 @@ use Rattle.records.specs.Fields.{firmFields}
 use Rattle.records.proofs.fields.firm_fields.Statement.{statement}
 use Rattle.records.proofs.fields.firm_fields.Tie as tie
 
-returns : tie.Need-returns
-unfolding firmFields
-returns c = cc
-
 pub firm-fields-spec : {M : Type 1} → statement M
-firm-fields-spec =
-    tie.close (tie.spec (λ c κs. search needs) (λ c κs. search needs) (λ c κs. search needs) returns)
+unfolding firmFields
+firm-fields-spec = tie.close (tie.spec (λ c κs. search needs) (λ c κs. search needs) (λ c κs. search needs) (λ c. cc))

@@ -4,11 +4,8 @@ use Rattle.records.specs.Fields.{groupFields}
 use Rattle.records.proofs.fields.group_fields.Statement.{statement}
 use Rattle.records.proofs.fields.group_fields.Tie as tie
 
-returns : tie.Need-returns
-unfolding groupFields
-returns c = cc
-
 pub group-fields-spec : {M : Type 1} → statement M
+unfolding groupFields
 group-fields-spec =
     tie.close (tie.spec (λ c κs. search needs) (λ c κs. search needs) (λ c κs. search needs) (λ c κs. search needs)
-    (λ c κs. search needs) (λ c κs. search needs) (λ c κs. search needs) returns)
+    (λ c κs. search needs) (λ c κs. search needs) (λ c κs. search needs) (λ c. cc))

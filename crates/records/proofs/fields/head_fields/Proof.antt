@@ -4,9 +4,6 @@ use Rattle.records.specs.Fields.{headFields}
 use Rattle.records.proofs.fields.head_fields.Statement.{statement}
 use Rattle.records.proofs.fields.head_fields.Tie as tie
 
-returns : tie.Need-returns
-unfolding headFields
-returns c = cc
-
 pub head-fields-spec : {M : Type 1} → statement M
-head-fields-spec = tie.close (tie.spec (λ c κs. search needs) (λ c κs. search needs) returns)
+unfolding headFields
+head-fields-spec = tie.close (tie.spec (λ c κs. search needs) (λ c κs. search needs) (λ c. cc))

@@ -4,9 +4,6 @@ use Rattle.records.specs.Fields.{isLetter}
 use Rattle.records.proofs.fields.is_letter.Statement.{statement}
 use Rattle.records.proofs.fields.is_letter.Tie as tie
 
-returns : tie.Need-returns
-unfolding isLetter
-returns c = cc
-
 pub is-letter-spec : {M : Type 1} → statement M
-is-letter-spec = tie.close (tie.spec (λ c κs. search needs) (λ c κs. search needs) returns)
+unfolding isLetter
+is-letter-spec = tie.close (tie.spec (λ c κs. search needs) (λ c κs. search needs) (λ c. cc))

@@ -3,8 +3,5 @@ use borrow.Author.Needs.{needs}
 use Rattle.report.proofs.firms.code_of.Statement.{statement}
 use Rattle.report.proofs.firms.code_of.Tie as tie
 
-returns : tie.Need-returns
-returns c = cc
-
 pub code-of-spec : {M : Type 1} → statement M
-code-of-spec = tie.close (tie.spec (λ c. search needs) (λ c. search needs) (λ c. search needs) (λ c κs. search needs) returns)
+code-of-spec = tie.close (tie.spec (λ c. search needs) (λ c. search needs) (λ c. search needs) (λ c κs. search needs) (λ c. cc))

@@ -16,9 +16,6 @@ Inv-loop out₀ schedule l book firms next₀ f₀ out next f = Wrote out₀ nex
 abbrev μ-loop : tie.MeasureT-loop
 μ-loop out₀ schedule l book firms next₀ f₀ out next f = firms - f
 
-loop-holds : tie.Need-loop-holds Inv-loop μ-loop
-loop-holds c = (wrote-first _ _ _, omega arith)
-
 loop-less : tie.Need-loop-less Inv-loop μ-loop
 loop-less c = omega (arith, c .before .before .before .before .loop-test .taken)
 
@@ -32,9 +29,6 @@ loop-again c =
       omega (arith, turn .loop-test .taken),
     )
 
-same-length : tie.Need-same-length Inv-loop μ-loop
-same-length c = wrote-length (c .before .loop .inv .0)
-
 returns : tie.Need-returns Inv-loop μ-loop
 returns c =
     let loop = c .before .loop in
@@ -44,5 +38,5 @@ returns c =
 
 pub put-firms-spec : {M : Type 1} → statement M
 put-firms-spec =
-    tie.close (tie.spec Inv-loop μ-loop (λ c. search needs) loop-holds (λ c κs. search needs) (λ c. search needs) loop-less
-    loop-again same-length returns)
+    tie.close (tie.spec Inv-loop μ-loop (λ c. search needs) (λ c. (wrote-first _ _ _, omega arith)) (λ c κs. search needs)
+    (λ c. search needs) loop-less loop-again (λ c. wrote-length (c .before .loop .inv .0)) returns)

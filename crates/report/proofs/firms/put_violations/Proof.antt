@@ -19,9 +19,6 @@ Inv-loop out₀ code records n next₀ i₀ out next i = Wrote out₀ next₀ (j
 abbrev μ-loop : tie.MeasureT-loop
 μ-loop out₀ code records n next₀ i₀ out next i = n - i
 
-loop-holds : tie.Need-loop-holds Inv-loop μ-loop
-loop-holds c = (wrote-first _ _ _, omega arith)
-
 sub-put-violation : tie.Need-sub-put-violation Inv-loop μ-loop
 sub-put-violation c = omega (arith, c .before .before .before .before .before .before .pre, c .before .loop-test .taken)
 
@@ -39,9 +36,6 @@ loop-again c =
       omega (arith, turn .loop-test .taken),
     )
 
-same-length : tie.Need-same-length Inv-loop μ-loop
-same-length c = wrote-length (c .before .loop .inv .0)
-
 returns : tie.Need-returns Inv-loop μ-loop
 returns c =
     let loop = c .before .loop in
@@ -50,5 +44,6 @@ returns c =
 
 pub put-violations-spec : {M : Type 1} → statement M
 put-violations-spec =
-    tie.close (tie.spec Inv-loop μ-loop loop-holds (λ c. search needs) sub-put-violation (λ c. search needs) (λ c. search needs)
-    (λ c κs. search needs) (λ c. search needs) loop-less loop-again same-length returns)
+    tie.close (tie.spec Inv-loop μ-loop (λ c. (wrote-first _ _ _, omega arith)) (λ c. search needs) sub-put-violation
+    (λ c. search needs) (λ c. search needs) (λ c κs. search needs) (λ c. search needs) loop-less loop-again
+    (λ c. wrote-length (c .before .loop .inv .0)) returns)

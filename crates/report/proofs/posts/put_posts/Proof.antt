@@ -31,20 +31,11 @@ measured : (c : tie.After-first-len Inv-loop μ-loop)
     → CutAt (now (start (c .before .before) .args .run)) (c .before .before .before .loop .from) (c .first-len .result)
 measured c = cut-at _ _ _ (c .before .before .loop-test .taken) (c .first-len .ensures)
 
-loop-holds : tie.Need-loop-holds Inv-loop μ-loop
-loop-holds c = posting-none _ _ _ _ _
-
-sub-first-len : tie.Need-sub-first-len Inv-loop μ-loop
-sub-first-len c = c .before .loop .inv .inside
-
 add-put-post : tie.Need-add-put-post Inv-loop μ-loop
 add-put-post c = omega (arith, measured (c .before .before) .most)
 
 part-put-post-end : tie.Need-part-put-post-end Inv-loop μ-loop
 part-put-post-end c = omega (arith, measured (c .before .before) .most)
-
-add-from : tie.Need-add-from Inv-loop μ-loop
-add-from c = omega (arith, measured (measuring c) .most)
 
 loop-less : tie.Need-loop-less Inv-loop μ-loop
 loop-less c =
@@ -63,17 +54,12 @@ loop-again c =
     let book = rw record-is at (post .ensures .1) in
     rw (m .first) (posting-next _ _ _ _ _ (turn .before .loop .inv) (turn .loop-test .taken) line book (post .kept .1 .1 .1 .0))
 
-same-length : tie.Need-same-length Inv-loop μ-loop
-same-length c = wrote-length (c .before .loop .inv .wrote)
-
-same-length-2 : tie.Need-same-length-2 Inv-loop μ-loop
-same-length-2 c = c .before .loop .inv .kept
-
 returns : tie.Need-returns Inv-loop μ-loop
 returns c = posting-all _ _ _ _ _ (c .before .loop .inv) (c .loop-test .left)
 
 pub put-posts-spec : {M : Type 1} → statement M
 put-posts-spec =
-    tie.close (tie.spec Inv-loop μ-loop loop-holds sub-first-len (λ c. search needs) (λ c. search needs) (λ c κs. search needs)
-    add-put-post (λ c. search needs) (λ c. search needs) part-put-post-end (λ c κs. search needs) add-from loop-less loop-again
-    same-length same-length-2 returns)
+    tie.close (tie.spec Inv-loop μ-loop (λ c. posting-none _ _ _ _ _) (λ c. c .before .loop .inv .inside) (λ c. search needs)
+    (λ c. search needs) (λ c κs. search needs) add-put-post (λ c. search needs) (λ c. search needs) part-put-post-end
+    (λ c κs. search needs) (λ c. omega (arith, measured (measuring c) .most)) loop-less loop-again
+    (λ c. wrote-length (c .before .loop .inv .wrote)) (λ c. c .before .loop .inv .kept) returns)

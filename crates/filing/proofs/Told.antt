@@ -8,20 +8,20 @@ use borrow.Author.Tests.{eqb-true, eqb-false, ne-eqb}
 use Rattle.wire.specs.Choose.{choose}
 use Rattle.lookup.specs.declared.Layout.{Layout}
 use Rattle.filing.specs.Causes.{firmPlaceOf, groupPlaceOf, isCountedRecord}
-use Rattle.filing.specs.Filing.{Taking, refusal, outside, counted, takingBy}
+use Rattle.filing.specs.Filing.{Filing, refusedBy, isOutside, countedIn, filingBy}
 
 module _ (S : List ℕ) (l : Layout) (R : List ℕ) (cs : List (Bool × ℕ)) where
-  pub is-refused : {n : ℕ} → choose cs 0 ≡ n → (n ≡ 0 → ⊥) → refusal n ≡ takingBy S l R cs
-  unfolding takingBy
+  pub is-refused : {n : ℕ} → choose cs 0 ≡ n → (n ≡ 0 → ⊥) → refusedBy n ≡ filingBy S l R cs
+  unfolding filingBy
   is-refused {n} e some = rw (e, ne-eqb n 0 some)
 
-  pub is-outside : choose cs 0 ≡ 0 → isCountedRecord S l R ≡ false → outside ≡ takingBy S l R cs
-  unfolding takingBy
+  pub is-outside : choose cs 0 ≡ 0 → isCountedRecord S l R ≡ false → isOutside ≡ filingBy S l R cs
+  unfolding filingBy
   is-outside e k = rw (e, k)
 
   pub is-counted : {f g : ℕ} → choose cs 0 ≡ 0 → isCountedRecord S l R ≡ true → f ≡ firmPlaceOf S l R → g ≡ groupPlaceOf S l R
-      → counted f g ≡ takingBy S l R cs
-  unfolding takingBy
+      → countedIn f g ≡ filingBy S l R cs
+  unfolding filingBy
   is-counted e k p q = rw (e, k, p, q)
 
   -- what a refusal tells
@@ -34,22 +34,22 @@ module _ (S : List ℕ) (l : Layout) (R : List ℕ) (cs : List (Bool × ℕ)) wh
     pub none : choose cs 0 ≡ 0
     pub counted : isCountedRecord S l R ≡ counts
 
-  pub record Placed (f g : ℕ) : Type 0 where
+  pub record Located (f g : ℕ) : Type 0 where
     pub passing : Passing true
     pub firm : f ≡ firmPlaceOf S l R
     pub group : g ≡ groupPlaceOf S l R
 
-  abbrev Told : Taking → Type 0
-  Told (refusal n) = Stopped n
-  Told outside = Passing false
-  Told (counted f g) = Placed f g
+  abbrev Told : Filing → Type 0
+  Told (refusedBy n) = Stopped n
+  Told isOutside = Passing false
+  Told (countedIn f g) = Located f g
 
-  pub told : {t : Taking} → t ≡ takingBy S l R cs → Told t
-  unfolding takingBy
+  pub told : {t : Filing} → t ≡ filingBy S l R cs → Told t
+  unfolding filingBy
   told e = rw e (go (eqb (choose cs 0) 0) (isCountedRecord S l R) refl refl)
     where
       go : (b k : Bool) → eqb (choose cs 0) 0 ≡ b → isCountedRecord S l R ≡ k
-          → Told (cond b (cond k (counted (firmPlaceOf S l R) (groupPlaceOf S l R)) outside) (refusal (choose cs 0)))
+          → Told (cond b (cond k (countedIn (firmPlaceOf S l R) (groupPlaceOf S l R)) isOutside) (refusedBy (choose cs 0)))
       go true true e k = record { passing = record { none = eqb-true _ _ e; counted = k }; firm = refl; group = refl }
       go true false e k = record { none = eqb-true _ _ e; counted = k }
       go false k e c = record { first = refl; some = eqb-false _ _ e }
