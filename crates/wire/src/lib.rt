@@ -1,5 +1,5 @@
-// Little-endian numbers of a byte string, the cut of a run of records, small tests of numbers, and a fill of numbers. Every reader is total:
-// past the end stand zeros.
+// Little-endian numbers of a byte string, the cut of a run of records, small tests of numbers, and a fill of numbers. Every reader is
+// total: past the end stand zeros.
 ghost use mathlib.Core.Path.{_≡_};
 ghost use Prim.Native.Nat.{_≤_, min};
 ghost use lib.ListN.{length, getD};
