@@ -9,7 +9,7 @@ use text::put_line;
 ghost use Prim.Native.Nat.{_≤_};
 ghost use lib.ListN.{length};
 
-// The largest output of a statement, in bytes.
+// The largest output that a script may ask for, in bytes.
 pub(crate) const OUTPUT: usize = 16_384;
 
 // Writes a text.
@@ -23,7 +23,7 @@ fn say_number(text: &[u8], n: u64) {
     io::print_decimal(STDOUT_FILENO, n);
 }
 
-// As a report has it.
+// The line that a report has for a refused schedule or book serves every refusal here.
 pub(crate) fn print_refused(number: u8, offset: usize) {
     let mut line = [0u8; 64];
     let front = Place { at: 0, whole: true };

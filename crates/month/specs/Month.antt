@@ -74,7 +74,7 @@ groupingsOf S l = table mostGroups (λ g. groupAt S l g .grouping)
 abbrev pub exemptsOf : (S : List ℕ) → Layout → Cells → List Bool
 exemptsOf S l c = table mostGroups (exempt (rulesOf S) (terms S l) c)
 
--- what the call promises: a refusal with empty arrays, or the firm's month, place by place and group by group
+-- what the call promises: a refusal, with zeros in the arrays, or the firm's month, place by place and group by group
 pub record MonthIs (S B C : List ℕ) (r : Month) : Type 0 where
   pub answer : meaning (r .answer) ≡ monthAnswer S B C
   pub starts : r .starts ≡ given (monthAnswer S B C) (replicate mostGroups 0) (startsOf S)

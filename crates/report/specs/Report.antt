@@ -50,7 +50,7 @@ module _ (C : List ℕ) where
       ++ totalsLine C (drop (bytes - bothTotals) R)
       ++ totalsLine C (drop (bytes - totalsSize) R)
 
-  -- a firm's violations and totals; a statement that is refused would show its number, and in a report none is (Laws.antt)
+  -- a firm's violations and totals; a statement that is refused would show its number, and in a report none is (report_laws)
   abbrev pub firmLines : (R : List ℕ) → Outcome ℕ → List ℕ
   firmLines R (refused number offset) = refusedLine number
   firmLines R (good bytes) = statementLines R bytes

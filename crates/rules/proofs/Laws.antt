@@ -1,4 +1,4 @@
--- The laws of the rules, each from the file that proves it, and version 9.6's factors, which fall.
+-- The laws of the rules, each from the file that proves it; version 9.6's factors, which fall; and the verdict on one day, of the two tables.
 use mathlib.Core.Bool.{Bool, true, false, cond}
 use mathlib.Core.Path.{_≡_, refl}
 use native.Mathlib.Omega.{arith}

@@ -1,4 +1,5 @@
--- What follows from the rules, whatever the constants, if their factors do not grow with the tier. Proved in proofs/Laws.antt.
+-- What follows from the rules, whatever the constants, if their factors do not grow with the tier; and, last, that the verdict on one day is the
+-- panel's. Proved in proofs/Laws.antt.
 -- Assumes nothing.
 use Prim.Native.Nat.{ℕ, _+_, _*_, _≤_, _<_}
 use mathlib.Core.Bool.{true, cond, _&&_}

@@ -1,4 +1,4 @@
--- Laws of `scan`: what one turn of the check's loop does, that the place stays in bounds, and that a refusal has a number.
+-- Laws of `scan`: what one turn of the check's loop does, and that the place stays in bounds.
 use Prim.Native.Nat.{ℕ, zero, suc, _+_, _-_, _*_, _≤_, _<_}
 use mathlib.Core.Bool.{true, false, false≢true}
 use mathlib.Core.List.{List}

@@ -1,5 +1,5 @@
--- What a good schedule holds (document 01, "Records"). Proved of every schedule that the check does not refuse: proofs/Good.antt,
--- Codes.antt, Found.antt.
+-- What the check's answer tells (document 01, "Records"): what a good schedule holds, and that a refusal has a number. Proved in proofs/Good.antt,
+-- Codes.antt and Found.antt.
 -- Assumes nothing.
 use Prim.Native.Nat.{ℕ, _+_, _*_, _≤_, _<_}
 use mathlib.Core.Bool.{Bool, true, false}

@@ -1,4 +1,4 @@
--- A record past the end, or shorter than its own head, has no body; one that runs past the end has the bytes that are there.
+-- A record past the end, or shorter than length and kind, has no body; one that runs past the end has the bytes that are there.
 use native.Mathlib.Omega.{arith}
 use denote.Ref.{now}
 use borrow.Author.Needs.{needs}
