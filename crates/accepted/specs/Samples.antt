@@ -3,17 +3,17 @@
 use Prim.Native.Nat.{ℕ}
 use mathlib.Core.List.{List, [], _∷_, _++_}
 use Rattle.wire.specs.Bytes.{u16Bytes, u32Bytes}
-use Rattle.records.specs.Bodies.{headSize, leastGroup, firmSize}
+use Rattle.records.specs.Bodies.{headKind, groupKind, firmKind, headSize, leastGroup, firmSize}
 use Rattle.activity.specs.Activity.{activityKind, activityLength}
 
 -- a head: October 2019, with these days not in effect
 abbrev pub head : (closed : ℕ) → List ℕ
-head closed = u16Bytes headSize ++ u16Bytes 1 ++ u16Bytes 24237 ++ u32Bytes closed
+head closed = u16Bytes headSize ++ u16Bytes headKind ++ u16Bytes 24237 ++ u32Bytes closed
 
 -- a group: of this code and exchange grouping, k 64, B 1,000, front 4,095, extra 0, contract 24,239
 abbrev pub group : (first second grouping : ℕ) → List ℕ
 group first second grouping =
-    u16Bytes leastGroup ++ u16Bytes 2 ++ (first ∷ second ∷ grouping ∷ 64 ∷ []) ++ u32Bytes 1000 ++ u16Bytes 4095 ++ u16Bytes 0 ++ u16Bytes 24239
+    u16Bytes leastGroup ++ u16Bytes groupKind ++ (first ∷ second ∷ grouping ∷ 64 ∷ []) ++ u32Bytes 1000 ++ u16Bytes 4095 ++ u16Bytes 0 ++ u16Bytes 24239
 
 -- the code of the firm ABC
 abbrev pub ABC : List ℕ
@@ -21,7 +21,7 @@ ABC = 65 ∷ 66 ∷ 67 ∷ []
 
 -- its record
 abbrev pub firm : List ℕ
-firm = u16Bytes firmSize ++ u16Bytes 3 ++ ABC
+firm = u16Bytes firmSize ++ u16Bytes firmKind ++ ABC
 
 -- a record of its activity, with its eight counts in their order
 abbrev pub activity : (first second day contract : ℕ) → (new modified cancelled fakFok requests reports minimum lots : ℕ) → List ℕ

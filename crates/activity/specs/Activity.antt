@@ -57,7 +57,7 @@ massRequests R = u32At R 28
 abbrev pub massReports : (R : List ℕ) → ℕ
 massReports R = u32At R 32
 
--- Records, kind 4: minimum-quantity orders, at 36
+-- Records, kind 4: minimum-quantity orders, at 36, which no definition counts under document 01
 abbrev pub minimumQuantity : (R : List ℕ) → ℕ
 minimumQuantity R = u32At R 36
 

@@ -8,7 +8,7 @@ pub const ACTIVITY_KIND: u16 = 4;
 
 pub const ACTIVITY_LENGTH: usize = 44;
 
-pub const FIRM: usize = 4;
+pub const FIRM_CODE: usize = 4;
 
 pub const DAY: usize = 7;
 

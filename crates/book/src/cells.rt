@@ -6,7 +6,7 @@ use schedule::check;
 ghost use mathlib.Core.Path.{_≡_};
 ghost use Prim.Native.Nat.{_+_, _^_, _≤_, _<_};
 ghost use lib.ListN.{length, getD};
-ghost use Rattle.schedule.specs.Check.{meaning};
+ghost use Rattle.schedule.specs.Check.{checkMeaning};
 ghost use Rattle.book.specs.Book.{width, size, index, cellAt, withCell, totalsIn, checkBook};
 
 // What the book keeps of one firm, one group and one day.
@@ -84,7 +84,7 @@ pub(crate) fn store_cell(book: &mut [u64], at: usize, cell: Cell)
 
 // The schedule and the size of a book: refusals 1 to 8, or what the schedule holds.
 pub fn check_book(schedule: &[u8], numbers: usize) -> Checked
-    ensures { λ r. ⌜ meaning r ≡ checkBook (now (schedule .entry)) numbers ⌝ }
+    ensures { λ r. ⌜ checkMeaning r ≡ checkBook (now (schedule .entry)) numbers ⌝ }
 {
     match check(schedule) {
         Checked::Refused { number, offset } => Checked::Refused { number, offset },

@@ -3,7 +3,7 @@ use activity::ACTIVITY_KIND;
 use activity::ACTIVITY_LENGTH;
 use activity::CONTRACT;
 use activity::DAY;
-use activity::FIRM;
+use activity::FIRM_CODE;
 use activity::GROUP_FIRST;
 use activity::GROUP_SECOND;
 use calendar::days_in;
@@ -90,7 +90,7 @@ fn file_listed(schedule: &[u8], l: Layout, record: &[u8]) -> Filed
     requires { ⌜ 7 ≤ length (now «record») ⌝ }
     ensures { λ r. ⌜ filedMeaning r ≡ filingBy (now (schedule .entry)) l (now («record» .entry)) (listCauses (now (schedule .entry)) l (now («record» .entry))) ⌝ }
 {
-    match find_firm(schedule, l, &record[FIRM..DAY]) {
+    match find_firm(schedule, l, &record[FIRM_CODE..DAY]) {
         FoundFirm::Nothing => Filed::Refused(14),
         FoundFirm::At(firm) => match find_group(
             schedule,

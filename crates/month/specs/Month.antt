@@ -14,7 +14,7 @@ use Rattle.rules.specs.Month.{Terms, Cells, exempt}
 use Rattle.rules.specs.Marks.{mostGroups, places, dayOf, groupOf, Judged, judged, mark}
 use Rattle.schedule.specs.Outcome.{Outcome, refused, good, follow, given}
 use Rattle.lookup.specs.Lookup.{groupStart, groupAt, firmListed, firmPlace}
-use Rattle.schedule.specs.Check.{meaning}
+use Rattle.schedule.specs.Check.{checkMeaning}
 use Rattle.lookup.specs.InForce.{rulesOf}
 use Rattle.lookup.specs.declared.Layout.{Layout}
 use Rattle.book.specs.Book.{totalsIn, checkBook}
@@ -76,7 +76,7 @@ exemptsOf S l c = table mostGroups (exempt (rulesOf S) (terms S l) c)
 
 -- what the call promises: a refusal, with zeros in the arrays, or the firm's month, place by place and group by group
 pub record MonthIs (S B C : List ℕ) (r : Month) : Type 0 where
-  pub answer : meaning (r .answer) ≡ monthAnswer S B C
+  pub answer : checkMeaning (r .answer) ≡ monthAnswer S B C
   pub starts : r .starts ≡ given (monthAnswer S B C) (replicate mostGroups 0) (startsOf S)
   pub groupings : r .groupings ≡ given (monthAnswer S B C) (replicate mostGroups 0) (groupingsOf S)
   pub codes : r .codes ≡ given (monthAnswer S B C) (replicate places 0) (λ l. table places (firmMonth S B C l .code))

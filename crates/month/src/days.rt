@@ -83,7 +83,7 @@ fn with_cell(sums: MonthSums, counted: bool, t: Totals) -> MonthSums
     sums
 }
 
-// The sums of a group of the firm over the month.
+// The sums of a group of the firm over the month. The schedule is an argument since the contract names the month's terms by it.
 fn month_sums(schedule: &[u8], l: Layout, book: &[u64], firm: u8, group: u8) -> MonthSums
     requires { ⌜ group < mostGroups ⌝ }
     requires { ⌜ Sound (now schedule) l (totalsIn (l .groups) (now book) firm) ⌝ }

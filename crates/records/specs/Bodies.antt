@@ -1,4 +1,4 @@
--- A record's length, kind and body, and the lengths of a schedule's records (document 01, "Records").
+-- A record's length, kind and body, and the kinds and lengths of a schedule's records (document 01, "Records").
 -- Assumes nothing.
 use Prim.Native.Nat.{ℕ, _+_, _-_}
 use mathlib.Core.List.{List}
@@ -16,6 +16,18 @@ kindAt S at = u16At S (at + 2)
 -- Records: body, the bytes after length and kind, up to the record's length or the end
 abbrev pub bodyAt : (S : List ℕ) → (at : ℕ) → List ℕ
 bodyAt S at = take (lengthAt S at - 4) (drop (at + 4) S)
+
+-- Records: kind 1, a head
+abbrev pub headKind : ℕ
+headKind = 1
+
+-- Records: kind 2, a group
+abbrev pub groupKind : ℕ
+groupKind = 2
+
+-- Records: kind 3, a firm
+abbrev pub firmKind : ℕ
+firmKind = 3
 
 -- Records, kind 1: head, 10 bytes
 abbrev pub headSize : ℕ

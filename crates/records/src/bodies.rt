@@ -1,7 +1,14 @@
-// Where a record's body stands, and the lengths of a schedule's records.
+// Where a record's body stands, and the kinds and lengths of a schedule's records.
 use wire::u16_at;
 ghost use mathlib.Core.Path.{_≡_};
 ghost use Rattle.records.specs.Bodies.{bodyAt};
+
+// The kinds of a head, a group and a firm.
+pub const HEAD_KIND: u16 = 1;
+
+pub const GROUP_KIND: u16 = 2;
+
+pub const FIRM_KIND: u16 = 3;
 
 // The bytes of a head, of the smallest and the largest group, and of a firm.
 pub const HEAD: usize = 10;

@@ -3,9 +3,12 @@ mod bodies;
 mod fields;
 
 pub use bodies::FIRM;
+pub use bodies::FIRM_KIND;
+pub use bodies::GROUP_KIND;
 pub use bodies::GROUP_LEAST;
 pub use bodies::GROUP_MOST;
 pub use bodies::HEAD;
+pub use bodies::HEAD_KIND;
 pub use bodies::body_at;
 pub use fields::Firm;
 pub use fields::Group;

@@ -12,12 +12,14 @@ use borrow.Author.Tests.{eq-eqb, le-ltb}
 use Rattle.wire.specs.Lists.{joined}
 use Rattle.wire.proofs.Choose.{every, some-at}
 use Rattle.wire.proofs.Sums.{count-most}
-use Rattle.rules.specs.Verdict.{version96, isViolation}
+use Rattle.rules.specs.Verdict.{isViolation}
 use Rattle.rules.specs.Marks.{places, Judged, violations}
+use Rattle.rules.specs.declared.Rules.{Rules}
 use Rattle.records.specs.Bodies.{bodyAt}
 use Rattle.records.specs.Fields.{firmFields, hasCode}
 use Rattle.schedule.specs.Outcome.{refused, good}
 use Rattle.lookup.specs.Lookup.{firmStart, firmIs, firmListed}
+use Rattle.lookup.specs.InForce.{rulesOf}
 use Rattle.lookup.specs.declared.Layout.{Layout}
 use Rattle.schedule.proofs.Good.{refused-good}
 use Rattle.book.specs.Book.{checkBook, openAnswer, openBook}
@@ -61,21 +63,23 @@ own-listed : (S : List ℕ) (l : Layout) (f : ℕ) → f < l .firms → firmList
 unfolding firmListed
 own-listed S l f h = some-at (l .firms) (firmIs S (l .start) (codeOf S l f)) f h (own-code S l f)
 
--- totals that stand in a statement are printed as those of the month
-totals-shown : (C T : List ℕ) (e : ℕ) (j : Judged) → TotalsAre version96 T e j → totalsLine C T ≡ monthTotals C e j
-unfolding totalsLine counts
-totals-shown C T e j t = rw (t .grouping, t .violationsAre, t .monthlyAre, t .automaticAre, t .billedAre, t .dollarsAre)
+-- under any rules P
+module _ (P : Rules) where
+  -- totals that stand in a statement are printed as those of the month
+  totals-shown : (C T : List ℕ) (e : ℕ) (j : Judged) → TotalsAre P T e j → totalsLine C T ≡ monthTotals P C e j
+  unfolding totalsLine counts
+  totals-shown C T e j t = rw (t .grouping, t .violationsAre, t .monthlyAre, t .automaticAre, t .billedAre, t .dollarsAre)
 
--- the lines of a statement whose totals are those of the month
-lines-shown : (C R : List ℕ) (j : Judged) → TotalsAre version96 (drop (afterLines j) R) 1 j → TotalsAre version96 (drop (afterLines j + totalsSize) R) 2 j
-    → statementLines C R (afterLines j + bothTotals)
-    ≡ joined (violations j 1 + violations j 2) (λ i. violationLine C (drop (lineSize * i) R)) ++ monthTotals C 1 j ++ monthTotals C 2 j
-unfolding statementLines
-lines-shown C R j t u =
-    let n : (afterLines j + bothTotals - bothTotals) / lineSize ≡ violations j 1 + violations j 2 = omega arith in
-    let one : afterLines j + bothTotals - bothTotals ≡ afterLines j = omega arith in
-    let two : afterLines j + bothTotals - totalsSize ≡ afterLines j + totalsSize = omega arith in
-    rw (n, one, two, totals-shown C (drop (afterLines j) R) 1 j t, totals-shown C (drop (afterLines j + totalsSize) R) 2 j u)
+  -- the lines of a statement whose totals are those of the month
+  lines-shown : (C R : List ℕ) (j : Judged) → TotalsAre P (drop (afterLines j) R) 1 j → TotalsAre P (drop (afterLines j + totalsSize) R) 2 j
+      → statementLines C R (afterLines j + bothTotals)
+      ≡ joined (violations j 1 + violations j 2) (λ i. violationLine C (drop (lineSize * i) R)) ++ monthTotals P C 1 j ++ monthTotals P C 2 j
+  unfolding statementLines
+  lines-shown C R j t u =
+      let n : (afterLines j + bothTotals - bothTotals) / lineSize ≡ violations j 1 + violations j 2 = omega arith in
+      let one : afterLines j + bothTotals - bothTotals ≡ afterLines j = omega arith in
+      let two : afterLines j + bothTotals - totalsSize ≡ afterLines j + totalsSize = omega arith in
+      rw (n, one, two, totals-shown C (drop (afterLines j) R) 1 j t, totals-shown C (drop (afterLines j + totalsSize) R) 2 j u)
 
 -- after any list of posts each of the month's firms has its violations and totals
 pub firm-shown : (S : List ℕ) {l : Layout} → checkBook S bookSize ≡ good l → (rs : List (List ℕ)) (f : ℕ) → f < l .firms → FirmShown S l rs f
@@ -98,5 +102,5 @@ firm-shown S {l} e rs f h =
     let a = demand3 S C listed .adds-up p in
     record {
       answer = a .answered;
-      shown = rw (a .answered) (lines-shown C (outputOf S C p) (monthAfter S C rs) (a .first) (a .second));
+      shown = rw (a .answered) (lines-shown (rulesOf S) C (outputOf S C p) (monthAfter S C rs) (a .first) (a .second));
     }

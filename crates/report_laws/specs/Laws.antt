@@ -5,9 +5,10 @@ use mathlib.Core.List.{List, _++_}
 use mathlib.Core.Path.{_≡_}
 use lib.ListN.{length, take, drop}
 use Rattle.wire.specs.Lists.{joined}
-use Rattle.rules.specs.Verdict.{version96}
 use Rattle.rules.specs.Marks.{Judged, violations, marked, billed, amount}
 use Rattle.schedule.specs.Outcome.{good}
+use Rattle.rules.specs.declared.Rules.{Rules}
+use Rattle.lookup.specs.InForce.{rulesOf}
 use Rattle.lookup.specs.declared.Layout.{Layout}
 use Rattle.accepted.specs.Accepted.{posted}
 use Rattle.book.specs.Book.{checkBook, openBook}
@@ -19,15 +20,15 @@ use Rattle.text.specs.Lines.{violationLine}
 use Rattle.report.specs.Report.{bookSize, zeros, codeOf, statementOf, report}
 use Rattle.report.specs.Answer.{outputSize, whole, bytesOf, reportAnswer, reportOutput}
 
--- a firm's totals in the exchange grouping e, of its month j: violations, monthly, automatic, billed with severe, and the firm's amount there
-abbrev pub monthTotals : (C : List ℕ) → (e : ℕ) → Judged → List ℕ
-monthTotals C e j =
+-- a firm's totals in the exchange grouping e, of its month j under the rules P: violations, monthly, automatic, billed with severe, and the firm's amount there
+abbrev pub monthTotals : Rules → (C : List ℕ) → (e : ℕ) → Judged → List ℕ
+monthTotals P C e j =
     C ++ text " grouping" ++ field e ++ text ":"
     ++ (field (violations j e)
-    ++ field (marked version96 j e 3)
-    ++ field (marked version96 j e 4)
-    ++ field (billed version96 j e)
-    ++ field (amount version96 j e))
+    ++ field (marked P j e 3)
+    ++ field (marked P j e 4)
+    ++ field (billed P j e)
+    ++ field (amount P j e))
     ++ text "\n"
 
 -- firm f of the schedule S, after the posts rs to the program's book: its code C, that book B, its statement R, and its month j, which comes from the
@@ -52,7 +53,7 @@ module _ (S : List ℕ) (l : Layout) (rs : List (List ℕ)) (f : ℕ) where
     -- a line for each violation, then the totals of the two exchange groupings, with what the firm owes
     pub shown :
         statementOf S l B f
-        ≡ joined (violations j 1 + violations j 2) (λ i. violationLine C (drop (lineSize * i) R)) ++ monthTotals C 1 j ++ monthTotals C 2 j
+        ≡ joined (violations j 1 + violations j 2) (λ i. violationLine C (drop (lineSize * i) R)) ++ monthTotals (rulesOf S) C 1 j ++ monthTotals (rulesOf S) C 2 j
 
 pub record Laws : Type 0 where
   -- no report is longer than the program's output

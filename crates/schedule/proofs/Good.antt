@@ -270,10 +270,10 @@ good-schedule S {l} e =
     rw (← r .0)
     (record {
       someGroup = s .grouped some;
-      mostGroups = f .groups;
+      fewGroups = f .groups;
       someFirm = some;
-      mostFirms = f .firms;
-      headKind = h .kind;
+      fewFirms = f .firms;
+      headFirst = h .kind;
       headLength = h .size;
       first = h .first;
       starts = s .starts pos;

@@ -7,7 +7,8 @@ use mathlib.Core.List.{List, [], _∷_, _++_}
 use lib.Dec.{eqb, leb, ltb}
 use lib.ListN.{length}
 use Rattle.wire.specs.Choose.{choose, within}
-use Rattle.records.specs.Bodies.{lengthAt, kindAt, bodyAt, headSize, leastGroup, largestGroup, firmSize}
+use Rattle.rules.specs.Marks.{mostGroups}
+use Rattle.records.specs.Bodies.{lengthAt, kindAt, bodyAt, headKind, groupKind, firmKind, headSize, leastGroup, largestGroup, firmSize}
 use Rattle.records.specs.Fields.{headFields, headOk, groupFields, firmFields, firmOk}
 use Rattle.contracts.specs.Listing.{groupOk}
 use Rattle.schedule.specs.Outcome.{Outcome, refused, good}
@@ -21,7 +22,7 @@ use Rattle.schedule.specs.declared.scan.Checked.the-variants as checked
 
 -- Records: kind 1, head; kind 2, group; kind 3, firm
 unfoldable pub kindOf : (number : ℕ) → Kind
-kindOf number = choose ((eqb number 1, kind.Head) ∷ (eqb number 2, kind.Group) ∷ (eqb number 3, kind.Firm) ∷ []) kind.Other
+kindOf number = choose ((eqb number headKind, kind.Head) ∷ (eqb number groupKind, kind.Group) ∷ (eqb number firmKind, kind.Firm) ∷ []) kind.Other
 
 -- Records: one head, 1 to 32 groups, 1 to 200 firms, in that order; Numbers of refusal, 2: a firm is due only after a group
 unfoldable pub isDue : Kind → Cursor → Bool
@@ -37,11 +38,15 @@ lengthOk kind.Group len = within leastGroup largestGroup len && eqb (len % 2) 0
 lengthOk kind.Firm len = eqb len firmSize
 lengthOk kind.Other len = false
 
+-- Records: 1 to 200 firms
+abbrev pub mostFirms : ℕ
+mostFirms = 200
+
 -- Numbers of refusal, 7: too many, as 32 groups or 200 firms stand before it
 unfoldable pub isFull : Kind → Layout → Bool
 isFull kind.Head l = false
-isFull kind.Group l = eqb (l .groups) 32
-isFull kind.Firm l = eqb (l .firms) 200
+isFull kind.Group l = eqb (l .groups) mostGroups
+isFull kind.Firm l = eqb (l .firms) mostFirms
 isFull kind.Other l = false
 
 -- Numbers of refusal, 5: every field is in order
@@ -126,6 +131,6 @@ unfoldable pub checkOf : (S : List ℕ) → Outcome Layout
 checkOf S = scan S (length S + 1) begin
 
 -- what the check's answer means: a refusal, or what the schedule holds
-abbrev pub meaning : Checked → Outcome Layout
-meaning (checked.Refused number offset) = refused number offset
-meaning (checked.Good l) = good l
+abbrev pub checkMeaning : Checked → Outcome Layout
+checkMeaning (checked.Refused number offset) = refused number offset
+checkMeaning (checked.Good l) = good l

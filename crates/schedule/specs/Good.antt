@@ -8,12 +8,13 @@ use mathlib.Core.Path.{_≡_}
 use lib.Dec.{eqb}
 use lib.ListN.{length, getD}
 use Rattle.wire.specs.Choose.{all, within}
-use Rattle.records.specs.Bodies.{lengthAt, kindAt, bodyAt, headSize, firmSize}
+use Rattle.rules.specs.Marks.{mostGroups}
+use Rattle.records.specs.Bodies.{lengthAt, kindAt, bodyAt, headKind, groupKind, firmKind, headSize, firmSize}
 use Rattle.records.specs.Fields.{headFields, headOk, groupInRange, firmFields, firmOk}
 use Rattle.contracts.specs.Listing.{contractsOk, listed}
 use Rattle.schedule.specs.Outcome.{refused}
 use Rattle.lookup.specs.Lookup.{groupStart, firmStart, groupAt, groupIs, firmIs, found, unlisted, GroupPlace, groupFoundAt, groupFound, firmFound}
-use Rattle.schedule.specs.Check.{checkOf}
+use Rattle.schedule.specs.Check.{mostFirms, checkOf}
 use Rattle.lookup.specs.declared.Layout.{Layout}
 
 -- a test holds at one place below n at the most
@@ -22,25 +23,25 @@ Once n p = (i j : ℕ) → i < n → j < n → p i ≡ true → p j ≡ true →
 
 -- the record of a group at a place: kind 2, 16 + 2n bytes with n listed contracts, 1 to 64, which are month numbers and rise
 pub record GroupStands (S : List ℕ) (at : ℕ) : Type 0 where
-  pub kind : kindAt S at ≡ 2
+  pub kind : kindAt S at ≡ groupKind
   pub size : lengthAt S at ≡ 16 + 2 * listed (bodyAt S at)
   pub contracts : within 1 64 (listed (bodyAt S at)) ≡ true
   pub rising : contractsOk (bodyAt S at) ≡ true
 
 -- the record of a firm at a place: kind 3, seven bytes, and a code of letters
 pub record FirmStands (S : List ℕ) (at : ℕ) : Type 0 where
-  pub kind : kindAt S at ≡ 3
+  pub kind : kindAt S at ≡ firmKind
   pub size : lengthAt S at ≡ firmSize
   pub letters : firmOk (firmFields (bodyAt S at)) ≡ true
 
 pub record GoodSchedule (S : List ℕ) (l : Layout) : Type 0 where
   -- 1 to 32 groups, 1 to 200 firms
   pub someGroup : 1 ≤ l .groups
-  pub mostGroups : l .groups ≤ 32
+  pub fewGroups : l .groups ≤ mostGroups
   pub someFirm : 1 ≤ l .firms
-  pub mostFirms : l .firms ≤ 200
+  pub fewFirms : l .firms ≤ mostFirms
   -- the head stands first, the groups follow it, the firms the groups, and nothing the firms
-  pub headKind : kindAt S 0 ≡ 1
+  pub headFirst : kindAt S 0 ≡ headKind
   pub headLength : lengthAt S 0 ≡ headSize
   pub first : l .first ≡ headSize
   pub starts : l .start ≡ groupStart S (l .first) (l .groups)

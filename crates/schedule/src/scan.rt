@@ -6,9 +6,12 @@ use lookup::Layout;
 use lookup::find_firm;
 use lookup::find_group;
 use records::FIRM;
+use records::FIRM_KIND;
+use records::GROUP_KIND;
 use records::GROUP_LEAST;
 use records::GROUP_MOST;
 use records::HEAD;
+use records::HEAD_KIND;
 use records::body_at;
 use records::firm_fields;
 use records::firm_ok;
@@ -23,7 +26,7 @@ ghost use lib.ListN.{length};
 ghost use Rattle.wire.specs.Choose.{choose};
 ghost use Rattle.lookup.specs.Lookup.{groupListed, firmListed};
 ghost use Rattle.schedule.specs.Check.{kindOf, isDue, lengthOk, isFull, fieldsOk, isRepeated};
-ghost use Rattle.schedule.specs.Check.{headerCauses, bodyCauses, cause, withRecord, after, meaning, checkOf};
+ghost use Rattle.schedule.specs.Check.{headerCauses, bodyCauses, cause, withRecord, after, checkMeaning, checkOf};
 
 // The kinds of a schedule's records.
 enum Kind {
@@ -39,6 +42,7 @@ struct Cursor {
     held: Layout,
 }
 
+// A refusal's number and offset, or what the schedule holds.
 pub enum Checked {
     Refused { number: u8, offset: usize },
     Good(Layout),
@@ -47,13 +51,13 @@ pub enum Checked {
 fn kind_of(number: u16) -> Kind
     ensures { λ r. ⌜ r ≡ kindOf number ⌝ }
 {
-    if number == 1 {
+    if number == HEAD_KIND {
         return Kind::Head;
     }
-    if number == 2 {
+    if number == GROUP_KIND {
         return Kind::Group;
     }
-    if number == 3 {
+    if number == FIRM_KIND {
         return Kind::Firm;
     }
     Kind::Other
@@ -246,7 +250,7 @@ fn next_record(s: &[u8], p: Cursor) -> Cursor
 
 // Checks a whole schedule: the first cause of refusal and its record's offset, or what the schedule holds.
 pub fn check(schedule: &[u8]) -> Checked
-    ensures { λ r. ⌜ meaning r ≡ checkOf (now (schedule .entry)) ⌝ }
+    ensures { λ r. ⌜ checkMeaning r ≡ checkOf (now (schedule .entry)) ⌝ }
 {
     let mut p = Cursor {
         at: 0,

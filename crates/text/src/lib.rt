@@ -2,6 +2,7 @@
 // writer asks for room: what has none is left out, and the place says so.
 mod lines;
 
+use wire::least;
 ghost use mathlib.Core.List.{_++_};
 ghost use mathlib.Core.Path.{_≡_};
 ghost use Prim.Native.Nat.{_-_, min};
@@ -24,11 +25,7 @@ fn room(size: usize, at: usize, wanted: usize) -> usize
     if size <= at {
         return 0;
     }
-    if size - at < wanted {
-        size - at
-    } else {
-        wanted
-    }
+    least(size - at, wanted)
 }
 
 // Writes a text, as much of it as there is room for.

@@ -7,7 +7,7 @@ use lib.ListN.{length}
 use denote.Ref.{now}
 use borrow.Author.Needs.{needs}
 use Rattle.schedule.specs.Outcome.{good}
-use Rattle.schedule.specs.Check.{meaning}
+use Rattle.schedule.specs.Check.{checkMeaning}
 use Rattle.lookup.specs.Lookup.{firmListed, firmMeaning}
 use Rattle.schedule.proofs.Good.{good-schedule}
 use Rattle.lookup.proofs.Laws.{firm-found, firm-unlisted}
@@ -26,10 +26,10 @@ checked c = c .before .before .before .before
 
 holds : (c : tie.After-find-firm) → let a = start (checked c) .args in
     checkBook (now (a .schedule)) (length (now (a .book))) ≡ good (c .before .before .l .given .0 .0)
-holds c = sym (checked c .check-book .ensures) ∙ ap meaning (c .before .before .l .given .1)
+holds c = sym (checked c .check-book .ensures) ∙ ap checkMeaning (c .before .before .l .given .1)
 
 refused-month-requires : tie.Need-refused-month-requires
-refused-month-requires c κs = is-refused _ _ _ (sym (c .before .before .before .check-book .ensures) ∙ ap meaning (c .before .number .given .1))
+refused-month-requires c κs = is-refused _ _ _ (sym (c .before .before .before .check-book .ensures) ∙ ap checkMeaning (c .before .number .given .1))
 
 refused-month-requires-2 : tie.Need-refused-month-requires-2
 refused-month-requires-2 c κs =
@@ -40,7 +40,7 @@ cast-listed-month : tie.Need-cast-listed-month
 cast-listed-month c =
     let k = c .before .before .before in
     let f = firm-found _ _ _ (sym (ap firmMeaning (c .before .f .given .1)) ∙ k .find-firm .ensures) in
-    let most : k .before .before .l .given .0 .0 .firms < 256 = omega (arith, good-schedule _ (sized _ _ (holds k) .schedule) .mostFirms) in
+    let most : k .before .before .l .given .0 .0 .firms < 256 = omega (arith, good-schedule _ (sized _ _ (holds k) .schedule) .fewFirms) in
     record { fits = lt-trans (f .inside) most }
 
 listed-month-requires : tie.Need-listed-month-requires

@@ -9,7 +9,7 @@ use lib.ListN.{length, take}
 use denote.Ref.{now}
 use borrow.Author.Needs.{needs}
 use borrow.Author.Tests.{lt-ltb, le-ltb}
-use Rattle.schedule.specs.Check.{meaning}
+use Rattle.schedule.specs.Check.{checkMeaning}
 use Rattle.input.specs.Input.{inputLimit, scheduleOf}
 use Rattle.report.specs.Report.{report}
 use Rattle.input.proofs.Cuts.{schedule-first, schedule-most, activity-rest}
@@ -53,7 +53,7 @@ returns-2 c =
     let told = line .before .before .before in
     let checked = told .before .before in
     let cut = checked .before .before in
-    let refused = rw (first cut) at (sym (checked .check-book .ensures) ∙ ap meaning (told .number .given .1)) in
+    let refused = rw (first cut) at (sym (checked .check-book .ensures) ∙ ap checkMeaning (told .number .given .1)) in
     rw (taken cut, refused) (line .put-line2 .ensures)
 
 returns-3 : tie.Need-returns-3
@@ -63,7 +63,7 @@ returns-3 c =
     let told = month .before .before .before .before .before in
     let checked = told .before .before in
     let cut = checked .before .before in
-    let good = rw (first cut) at (sym (checked .check-book .ensures) ∙ ap meaning (told .l .given .1)) in
+    let good = rw (first cut) at (sym (checked .check-book .ensures) ∙ ap checkMeaning (told .l .given .1)) in
     rw (taken cut, good) (rw (first cut, activity-rest (I cut) (cut .schedule-end .ensures)) at (month .put-month .ensures))
 
 pub put-report-spec : {M : Type 1} → statement M

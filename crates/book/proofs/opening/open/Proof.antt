@@ -5,7 +5,7 @@ use native.Mathlib.Omega.{arith}
 use lib.ListN.{length}
 use denote.Ref.{now}
 use borrow.Author.Needs.{needs}
-use Rattle.schedule.specs.Check.{meaning}
+use Rattle.schedule.specs.Check.{checkMeaning}
 use Rattle.schedule.specs.Outcome.{good}
 use Rattle.book.specs.Book.{size, checkBook}
 use Rattle.book.proofs.Checked.{sized}
@@ -18,11 +18,11 @@ start c = c .before .before .before .before .before .before
 
 -- there the book is taken
 taken : (c : tie.After-known-told2) → let a = start c .args in checkBook (now (a .schedule)) (length (now (a .book))) ≡ good (c .before .l .given .0 .0)
-taken c = sym (c .before .before .before .check-book .ensures) ∙ ap meaning (c .before .l .given .1)
+taken c = sym (c .before .before .before .check-book .ensures) ∙ ap checkMeaning (c .before .l .given .1)
 
 returns : tie.Need-returns
 returns c =
-    let e = sym (c .before .before .before .check-book .ensures) ∙ ap meaning (c .before .number .given .1) in
+    let e = sym (c .before .before .before .check-book .ensures) ∙ ap checkMeaning (c .before .number .given .1) in
     record { answer = rw e; book = rw e }
 
 returns-2 : tie.Need-returns-2
