@@ -37,7 +37,7 @@ use Rattle.month.specs.Month.{terms, monthOf, anyExcess, firmTotals, firmMonth,
 use Rattle.month.specs.Parts.{ListedAt, Grouped}
 use Rattle.month.proofs.Answers.{is-judged}
 use Rattle.month.proofs.Waivers.{month-grouped, one-or-two}
-use Rattle.statement.specs.Layout.{lineSize, totalsSize, bothTotals, totalsViolations, totalsMonthly, totalsAutomatic, totalsBilled}
+use Rattle.statement.specs.Layout.{lineSize, totalsSize, bothTotals, violationsAt, monthlyAt, automaticAt, billedAt, totalsViolations, totalsMonthly, totalsAutomatic, totalsBilled}
 use Rattle.statement.specs.Lines.{totalsBytes, lines, having, tally, shown}
 use Rattle.statement.specs.Statement.{statementBytes, need, statementAnswer, statementOutput}
 use Rattle.statement.proofs.Shown.{lines-length, mark-some, marks-count, bytes-length}
@@ -69,10 +69,10 @@ module _ (ys : List ℕ) (e : ℕ) (j : Judged) where
   totals-are : TotalsAre version96 totals e j
   unfolding totals tally u32At u16At
   totals-are =
-      let v : totalsViolations totals ≡ violations j e = such-there 6 (λ m. not (eqb m 0)) refl ∙ such-violations in
-      let m : totalsMonthly totals ≡ marked version96 j e 3 = such-there 8 (λ m. eqb m 3) refl in
-      let a : totalsAutomatic totals ≡ marked version96 j e 4 = such-there 10 (λ m. eqb m 4) refl in
-      let b : totalsBilled totals ≡ billed version96 j e = such-there 12 isBilled refl in
+      let v : totalsViolations totals ≡ violations j e = such-there violationsAt (λ m. not (eqb m 0)) refl ∙ such-violations in
+      let m : totalsMonthly totals ≡ marked version96 j e 3 = such-there monthlyAt (λ m. eqb m 3) refl in
+      let a : totalsAutomatic totals ≡ marked version96 j e 4 = such-there automaticAt (λ m. eqb m 4) refl in
+      let b : totalsBilled totals ≡ billed version96 j e = such-there billedAt isBilled refl in
       record {
         length = refl;
         kind = refl;

@@ -1,5 +1,5 @@
 // Where the groups and firms of a schedule stand, which of them has a code, and the Program's constants in force.
-use records::FIRM;
+use records::FIRM_SIZE;
 use records::Firm;
 use records::Group;
 use records::body_at;
@@ -87,7 +87,7 @@ pub fn find_firm(schedule: &[u8], l: Layout, code: &[u8]) -> FoundFirm
     let start = l.start as usize;
     let mut i: usize = 0;
     while i < n {
-        if has_code(firm_at(schedule, start + FIRM * i), code) {
+        if has_code(firm_at(schedule, start + FIRM_SIZE * i), code) {
             return FoundFirm::At(i);
         }
         i += 1;

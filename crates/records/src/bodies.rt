@@ -11,13 +11,13 @@ pub const GROUP_KIND: u16 = 2;
 pub const FIRM_KIND: u16 = 3;
 
 // The bytes of a head, of the smallest and the largest group, and of a firm.
-pub const HEAD: usize = 10;
+pub const HEAD_SIZE: usize = 10;
 
 pub const GROUP_LEAST: usize = 18;
 
 pub const GROUP_MOST: usize = 144;
 
-pub const FIRM: usize = 7;
+pub const FIRM_SIZE: usize = 7;
 
 // The body of the record at a place, cut short at the end of the bytes.
 pub fn body_at(s: &[u8], at: usize) -> &[u8]

@@ -2,13 +2,13 @@
 mod bodies;
 mod fields;
 
-pub use bodies::FIRM;
 pub use bodies::FIRM_KIND;
+pub use bodies::FIRM_SIZE;
 pub use bodies::GROUP_KIND;
 pub use bodies::GROUP_LEAST;
 pub use bodies::GROUP_MOST;
-pub use bodies::HEAD;
 pub use bodies::HEAD_KIND;
+pub use bodies::HEAD_SIZE;
 pub use bodies::body_at;
 pub use fields::Firm;
 pub use fields::Group;

@@ -1,7 +1,7 @@
 // The firms' statements as text.
 use lookup::Layout;
 use lookup::firm_at;
-use records::FIRM;
+use records::FIRM_SIZE;
 use statement::BOTH_TOTALS;
 use statement::LARGEST;
 use statement::LINE;
@@ -53,7 +53,7 @@ fn code_of(schedule: &[u8], l: Layout, f: usize) -> [u8; 3]
     requires { ⌜ f ≤ 255 ⌝ }
     ensures { λ r. ⌜ r ≡ codeOf (now (schedule .entry)) l f ⌝ }
 {
-    let firm = firm_at(schedule, l.start as usize + FIRM * f);
+    let firm = firm_at(schedule, l.start as usize + FIRM_SIZE * f);
     [firm.first, firm.second, firm.third]
 }
 

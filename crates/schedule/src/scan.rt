@@ -5,13 +5,13 @@ use lookup::FoundGroup;
 use lookup::Layout;
 use lookup::find_firm;
 use lookup::find_group;
-use records::FIRM;
 use records::FIRM_KIND;
+use records::FIRM_SIZE;
 use records::GROUP_KIND;
 use records::GROUP_LEAST;
 use records::GROUP_MOST;
-use records::HEAD;
 use records::HEAD_KIND;
+use records::HEAD_SIZE;
 use records::body_at;
 use records::firm_fields;
 use records::firm_ok;
@@ -78,9 +78,9 @@ fn length_ok(kind: Kind, len: usize) -> bool
     ensures { λ r. ⌜ r ≡ lengthOk kind len ⌝ }
 {
     match kind {
-        Kind::Head => len == HEAD,
+        Kind::Head => len == HEAD_SIZE,
         Kind::Group => (GROUP_LEAST <= len) & (len <= GROUP_MOST) & (len % 2 == 0),
-        Kind::Firm => len == FIRM,
+        Kind::Firm => len == FIRM_SIZE,
         Kind::Other => false,
     }
 }
