@@ -7,7 +7,7 @@ use mathlib.Core.Path.{_≡_, refl, sym, _∙_, fun-ext}
 use lib.Dec.{eqb}
 use lib.ListN.{getD}
 use borrow.Author.Tests.{eqb-true, eq-eqb}
-use Rattle.records.specs.Bodies.{bodyAt}
+use Rattle.records.specs.Bodies.{restAt}
 use Rattle.records.specs.Fields.{firmFields, sameCode, hasCode}
 use Rattle.wire.specs.Choose.{all}
 use Rattle.wire.proofs.Bools.{and-left, and-right, never}
@@ -66,7 +66,7 @@ same-code S start i A C a c =
     let y = each _ c in
     let same : (k : ℕ) → (s : ℕ) → eqb s (getD A k 0) ≡ true → eqb s (getD C k 0) ≡ true → eqb (getD A k 0) (getD C k 0) ≡ true
     = λ k s p q. eq-eqb _ _ (sym (eqb-true s (getD A k 0) p) ∙ eqb-true s (getD C k 0) q) in
-    let f = firmFields (bodyAt S (firmStart start i)) in
+    let f = firmFields (restAt S (firmStart start i)) in
     every _ (
       y .0,
       (same 0 (f .first) (x .1 .0) (y .1 .0), (same 1 (f .second) (x .1 .1 .0) (y .1 .1 .0), (same 2 (f .third) (x .1 .1 .1 .0) (y .1 .1 .1 .0), tt))),

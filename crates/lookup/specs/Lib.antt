@@ -1,2 +1,3 @@
 pub mod Lookup
 pub mod InForce
+pub mod Codes

@@ -6,7 +6,7 @@ use mathlib.Core.Bool.{Bool, cond}
 use mathlib.Core.List.{List, [], _∷_}
 use lib.Dec.{eqb}
 use Rattle.wire.specs.Choose.{all, seek, some}
-use Rattle.records.specs.Bodies.{lengthAt, bodyAt, firmSize}
+use Rattle.records.specs.Bodies.{lengthAt, restAt, bodyAt, firmSize}
 use Rattle.records.specs.Fields.{groupFields, firmFields, hasCode}
 use Rattle.records.specs.declared.fields.Group.{Group}
 use Rattle.lookup.specs.declared.Layout.{Layout}
@@ -24,9 +24,9 @@ groupStart S first (suc i) = groupStart S first i + lengthAt S (groupStart S fir
 abbrev pub firmStart : (start i : ℕ) → ℕ
 firmStart start i = start + firmSize * i
 
--- the record at `at` has the group code of the letters x and y
+-- the record at `at` has the group code of the letters x and y, whatever its length says
 abbrev pub groupHas : (S : List ℕ) → (at x y : ℕ) → Bool
-groupHas S at x y = all (eqb (groupFields (bodyAt S at) .first) x ∷ eqb (groupFields (bodyAt S at) .second) y ∷ [])
+groupHas S at x y = all (eqb (groupFields (restAt S at) .first) x ∷ eqb (groupFields (restAt S at) .second) y ∷ [])
 
 -- group i has that code
 unfoldable pub groupIs : (S : List ℕ) → (first x y i : ℕ) → Bool
@@ -34,7 +34,7 @@ groupIs S first x y i = groupHas S (groupStart S first i) x y
 
 -- firm i has the code C
 unfoldable pub firmIs : (S : List ℕ) → (start : ℕ) → (C : List ℕ) → (i : ℕ) → Bool
-firmIs S start C i = hasCode (firmFields (bodyAt S (firmStart start i))) C
+firmIs S start C i = hasCode (firmFields (restAt S (firmStart start i))) C
 
 -- what a search by code finds: where it is listed, or that it is unlisted
 pub data Found (A : Type 0) : Type 0 where

@@ -6,11 +6,12 @@ use records::body_at;
 use records::firm_fields;
 use records::group_fields;
 use records::has_code;
+use records::rest_at;
 use rules::Rules;
 use rules::version96;
 use wire::u16_at;
 ghost use mathlib.Core.Path.{_≡_};
-ghost use Rattle.records.specs.Bodies.{bodyAt};
+ghost use Rattle.records.specs.Bodies.{restAt, bodyAt};
 ghost use Rattle.records.specs.Fields.{groupFields, firmFields};
 ghost use Rattle.lookup.specs.InForce.{rulesOf};
 ghost use Rattle.lookup.specs.Lookup.{groupHas, groupFound, groupMeaning, firmFound, firmMeaning};
@@ -48,7 +49,7 @@ pub fn group_at(schedule: &[u8], at: usize) -> Group
 fn group_has(schedule: &[u8], at: usize, x: u8, y: u8) -> bool
     ensures { λ r. ⌜ r ≡ groupHas (now (schedule .entry)) at x y ⌝ }
 {
-    let g = group_at(schedule, at);
+    let g = group_fields(rest_at(schedule, at));
     (g.first == x) & (g.second == y)
 }
 
@@ -72,11 +73,11 @@ pub fn find_group(schedule: &[u8], l: Layout, x: u8, y: u8) -> FoundGroup
     FoundGroup::Nothing
 }
 
-// The fields of the firm whose record stands at a place.
+// The fields of the firm whose record stands at a place, whatever its length says.
 pub fn firm_at(schedule: &[u8], at: usize) -> Firm
-    ensures { λ r. ⌜ r ≡ firmFields (bodyAt (now (schedule .entry)) at) ⌝ }
+    ensures { λ r. ⌜ r ≡ firmFields (restAt (now (schedule .entry)) at) ⌝ }
 {
-    firm_fields(body_at(schedule, at))
+    firm_fields(rest_at(schedule, at))
 }
 
 // The firm with a code, a slice of any length.

@@ -13,9 +13,13 @@ lengthAt S at = u16At S at
 abbrev pub kindAt : (S : List ℕ) → (at : ℕ) → ℕ
 kindAt S at = u16At S (at + 2)
 
--- Records: body, the bytes after length and kind, up to the record's length or the end
+-- Records: the bytes after length and kind, to the end
+abbrev pub restAt : (S : List ℕ) → (at : ℕ) → List ℕ
+restAt S at = drop (at + 4) S
+
+-- Records: body, those of them that the record's length takes in
 abbrev pub bodyAt : (S : List ℕ) → (at : ℕ) → List ℕ
-bodyAt S at = take (lengthAt S at - 4) (drop (at + 4) S)
+bodyAt S at = take (lengthAt S at - 4) (restAt S at)
 
 -- Records: kind 1, a head
 abbrev pub headKind : ℕ

@@ -1,7 +1,8 @@
 // Where a record's body stands, and the kinds and lengths of a schedule's records.
+use wire::least;
 use wire::u16_at;
 ghost use mathlib.Core.Path.{_≡_};
-ghost use Rattle.records.specs.Bodies.{bodyAt};
+ghost use Rattle.records.specs.Bodies.{restAt, bodyAt};
 
 // The kinds of a head, a group and a firm.
 pub const HEAD_KIND: u16 = 1;
@@ -18,6 +19,15 @@ pub const GROUP_LEAST: usize = 18;
 pub const GROUP_MOST: usize = 144;
 
 pub const FIRM_SIZE: usize = 7;
+
+// The bytes after length and kind of the record at a place, to the end.
+pub fn rest_at(s: &[u8], at: usize) -> &[u8]
+    ensures { λ r. ⌜ now r ≡ restAt (now (s .entry)) at ⌝ }
+{
+    let from = least(at, s.len());
+    let start = from + least(4, s.len() - from);
+    &s[start..]
+}
 
 // The body of the record at a place, cut short at the end of the bytes.
 pub fn body_at(s: &[u8], at: usize) -> &[u8]

@@ -10,6 +10,7 @@ pub use bodies::GROUP_MOST;
 pub use bodies::HEAD_KIND;
 pub use bodies::HEAD_SIZE;
 pub use bodies::body_at;
+pub use bodies::rest_at;
 pub use fields::Firm;
 pub use fields::Group;
 pub use fields::Head;

@@ -8,7 +8,7 @@ use lib.Dec.{ltb}
 use lib.ListN.{length, drop, replicate}
 use Rattle.wire.specs.Lists.{joined}
 use Rattle.lookup.specs.Lookup.{firmStart}
-use Rattle.records.specs.Bodies.{bodyAt}
+use Rattle.records.specs.Bodies.{restAt}
 use Rattle.records.specs.Fields.{firmFields, letters}
 use Rattle.schedule.specs.Outcome.{Outcome, refused, good}
 use Rattle.lookup.specs.declared.Layout.{Layout}
@@ -58,7 +58,7 @@ module _ (C : List ℕ) where
 module _ (S : List ℕ) (l : Layout) where
   -- the code of firm f, from 0
   abbrev pub codeOf : (f : ℕ) → List ℕ
-  codeOf f = letters (firmFields (bodyAt S (firmStart (l .start) f)))
+  codeOf f = letters (firmFields (restAt S (firmStart (l .start) f)))
 
   -- then per firm its violations and totals
   unfoldable pub statementOf : (B : List ℕ) → (f : ℕ) → List ℕ

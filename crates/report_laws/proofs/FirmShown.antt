@@ -15,7 +15,7 @@ use Rattle.wire.proofs.Sums.{count-most}
 use Rattle.rules.specs.Verdict.{isViolation}
 use Rattle.rules.specs.Marks.{places, Judged, violations}
 use Rattle.rules.specs.declared.Rules.{Rules}
-use Rattle.records.specs.Bodies.{bodyAt}
+use Rattle.records.specs.Bodies.{restAt}
 use Rattle.records.specs.Fields.{firmFields, hasCode}
 use Rattle.schedule.specs.Outcome.{refused, good}
 use Rattle.lookup.specs.Lookup.{firmStart, firmIs, firmListed}
@@ -43,7 +43,7 @@ zeros-length n = length-replicate n 0
 own-code : (S : List ℕ) (l : Layout) (f : ℕ) → firmIs S (l .start) (codeOf S l f) f ≡ true
 unfolding firmIs hasCode
 own-code S l f =
-    let firm = firmFields (bodyAt S (firmStart (l .start) f)) in
+    let firm = firmFields (restAt S (firmStart (l .start) f)) in
     let same : (x : ℕ) → eqb x x ≡ true = λ x. eq-eqb x x refl in
     every _ (refl, (same (firm .first), (same (firm .second), (same (firm .third), tt))))
 

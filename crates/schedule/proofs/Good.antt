@@ -6,12 +6,13 @@ use mathlib.Core.Path.{_≡_, refl, sym, _∙_}
 use native.Mathlib.Omega.{arith}
 use lib.Dec.{eqb, leb}
 use lib.ListN.{length, getD, length-take, length-drop}
+use lib.Seq.{getD-take}
 use borrow.Author.Count.{below-more}
 use borrow.Author.Tests.{leb-false, leb-true, eqb-true, eqb-false, eq-eqb, not-true}
 use Rattle.wire.specs.Choose.{within}
 use Rattle.wire.proofs.Bools.{and-left, and-right, range, in-range}
 use Rattle.wire.proofs.Choose.{here, next, done, chosen, each, none-at, choose-most, every}
-use Rattle.records.specs.Bodies.{lengthAt, kindAt, bodyAt, headSize, leastGroup, largestGroup, firmSize}
+use Rattle.records.specs.Bodies.{lengthAt, kindAt, restAt, bodyAt, headSize, leastGroup, largestGroup, firmSize}
 use Rattle.records.specs.Fields.{headFields, headOk, groupFields, groupInRange, firmFields, hasCode}
 use Rattle.contracts.specs.Listing.{contractsOk, listed}
 use Rattle.records.specs.declared.fields.Firm.{Firm}
@@ -113,16 +114,31 @@ sound-begin S =
       firmOnce = λ C i j h. absurd (omega arith);
     }
 
+-- the bytes of a body are those after length and kind
+body-byte : (S : List ℕ) (at k : ℕ) → k + 4 < lengthAt S at → getD (bodyAt S at) k 0 ≡ getD (restAt S at) k 0
+body-byte S at k h = getD-take (lengthAt S at - 4) (restAt S at) k 0 (omega arith)
+
+-- so a group's code is in its body
+module _ (S : List ℕ) (at : ℕ) (long : 5 < lengthAt S at) where
+  first-letter : groupFields (bodyAt S at) .first ≡ groupFields (restAt S at) .first
+  unfolding groupFields
+  first-letter = body-byte S at 0 (omega arith)
+
+  second-letter : groupFields (bodyAt S at) .second ≡ groupFields (restAt S at) .second
+  unfolding groupFields
+  second-letter = body-byte S at 1 (omega arith)
+
 -- a group whose code is not listed before it has no other's code
-new-group : (S : List ℕ) (l : Layout)
+new-group : (S : List ℕ) (l : Layout) → 5 < lengthAt S (groupStart S (l .first) (l .groups))
     → groupListed S l (groupFields (bodyAt S (groupStart S (l .first) (l .groups))) .first) (groupFields (bodyAt S (groupStart S (l .first) (l .groups))) .second) ≡ false
     → (x y : ℕ) → groupIs S (l .first) x y (l .groups) ≡ true → (i : ℕ) → i < l .groups → groupIs S (l .first) x y i ≡ false
 unfolding groupListed groupIs
-new-group S l u x y e i h =
+new-group S l long u x y e i h =
     let t = each _ e in
-    let g = groupFields (bodyAt S (groupStart S (l .first) (l .groups))) in
-    let a : g .first ≡ x = eqb-true _ _ (t .0) in
-    let b : g .second ≡ y = eqb-true _ _ (t .1 .0) in
+    let at = groupStart S (l .first) (l .groups) in
+    let g = groupFields (bodyAt S at) in
+    let a : g .first ≡ x = first-letter S at long ∙ eqb-true _ _ (t .0) in
+    let b : g .second ≡ y = second-letter S at long ∙ eqb-true _ _ (t .1 .0) in
     rw (a, b) at (none-at (l .groups) (groupIs S (l .first) (g .first) (g .second)) u i h)
 
 -- two codes of one firm are had by the same firms: both are its three letters
@@ -138,9 +154,12 @@ same-code f g C D c d =
     rw (l, a, b, t)
 
 -- a firm has its body as a code
-own-code : (B : List ℕ) → length B ≡ 3 → hasCode (firmFields B) B ≡ true
+own-code : (S : List ℕ) (at : ℕ) → lengthAt S at ≡ firmSize → length (bodyAt S at) ≡ 3 → hasCode (firmFields (restAt S at)) (bodyAt S at) ≡ true
 unfolding hasCode firmFields
-own-code B e = every _ (eq-eqb _ _ e, (eq-eqb (getD B 0 0) _ refl, (eq-eqb (getD B 1 0) _ refl, (eq-eqb (getD B 2 0) _ refl, tt))))
+own-code S at seven e =
+    let same : (k : ℕ) → k < 3 → eqb (getD (restAt S at) k 0) (getD (bodyAt S at) k 0) ≡ true
+    = λ k h. eq-eqb _ _ (sym (body-byte S at k (omega arith))) in
+    every _ (eq-eqb _ _ e, (same 0 (omega arith), (same 1 (omega arith), (same 2 (omega arith), tt))))
 
 -- so a firm whose code is not listed before it has no other's code
 module _ (S : List ℕ) (l : Layout) (seven : lengthAt S (firmStart (l .start) (l .firms)) ≡ firmSize) (inside : firmStart (l .start) (l .firms) + firmSize ≤ length S) where
@@ -148,9 +167,9 @@ module _ (S : List ℕ) (l : Layout) (seven : lengthAt S (firmStart (l .start) (
       → (C : List ℕ) → firmIs S (l .start) C (l .firms) ≡ true → (i : ℕ) → i < l .firms → firmIs S (l .start) C i ≡ false
   unfolding firmListed firmIs
   new-firm u C e i h =
-      let B : List ℕ = bodyAt S (firmStart (l .start) (l .firms)) in
-      let long : length B ≡ 3 = simp (length-take, length-drop) (omega arith) in
-      same-code (firmFields B) _ C B e (own-code B long) ∙ none-at (l .firms) _ u i h
+      let at = firmStart (l .start) (l .firms) in
+      let long : length (bodyAt S at) ≡ 3 = simp (length-take, length-drop) (omega arith) in
+      same-code (firmFields (restAt S at)) _ C (bodyAt S at) e (own-code S at seven long) ∙ none-at (l .firms) _ u i h
 
 -- a group's length says how many contracts it lists
 module _ (S : List ℕ) (at : ℕ) (fits : lengthAt S at ≤ length S - at) (sized : lengthOk kind.Group (lengthAt S at) ≡ true) where
@@ -216,6 +235,7 @@ module _ (S : List ℕ) (p : Cursor) where
         contracts = lists-few S (p .at) fits sized;
         rising = and-right ok (contractsOk (bodyAt S (p .at))) fields;
       } in
+      let long : 5 < lengthAt S (p .at) = omega (arith, even S (p .at) fits sized) in
       let fine : ok ≡ true = and-left ok (contractsOk (bodyAt S (p .at))) fields in
       record {
         bare = λ q. absurd (omega arith);
@@ -226,7 +246,7 @@ module _ (S : List ℕ) (p : Cursor) where
         groups = below-more _ _ (s .groups) (rw stands at stand);
         ranges = below-more _ _ (s .ranges) (rw stands at fine);
         firms = λ i h. absurd (omega arith);
-        groupOnce = λ x y. once-more (p .held .groups) (groupIs S (p .held .first) x y) (s .groupOnce x y) (new-group S (p .held) (rw stands at once) x y);
+        groupOnce = λ x y. once-more (p .held .groups) (groupIs S (p .held .first) x y) (s .groupOnce x y) (new-group S (p .held) (rw stands at long) (rw stands at once) x y);
         firmOnce = λ C i j h. absurd (omega arith);
       }
   sound-after kind.Firm number due sized fits fields once l s =

@@ -1,5 +1,4 @@
 pub mod Numbers
 pub mod Turns
 pub mod Good
-pub mod Codes
 pub mod Found

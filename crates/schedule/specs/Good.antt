@@ -1,13 +1,12 @@
--- What the check's answer tells (document 01, "Records"): what a good schedule holds, and that a refusal has a number. Proved in proofs/Good.antt,
--- Codes.antt and Found.antt.
+-- What the check's answer tells (document 01, "Records"): what a good schedule holds, and that a refusal has a number. Proved in proofs/Good.antt
+-- and Found.antt.
 -- Assumes nothing.
 use Prim.Native.Nat.{ℕ, _+_, _*_, _≤_, _<_}
 use mathlib.Core.Bool.{Bool, true, false}
-use mathlib.Core.List.{List, [], _∷_}
+use mathlib.Core.List.{List}
 use mathlib.Core.Path.{_≡_}
-use lib.Dec.{eqb}
-use lib.ListN.{length, getD}
-use Rattle.wire.specs.Choose.{all, within}
+use lib.ListN.{length}
+use Rattle.wire.specs.Choose.{within}
 use Rattle.rules.specs.Marks.{mostGroups}
 use Rattle.records.specs.Bodies.{lengthAt, kindAt, bodyAt, headKind, groupKind, firmKind, headSize, firmSize}
 use Rattle.records.specs.Fields.{headFields, headOk, groupInRange, firmFields, firmOk}
@@ -59,23 +58,6 @@ pub record GoodSchedule (S : List ℕ) (l : Layout) : Type 0 where
   -- no code is repeated in its kind
   pub groupOnce : (x y : ℕ) → Once (l .groups) (groupIs S (l .first) x y)
   pub firmOnce : (C : List ℕ) → Once (l .firms) (firmIs S (l .start) C)
-
--- where the codes of a good schedule stand in its bytes, by document 01's own offsets: a group's at 4 of its record, a firm's at 4
-pub record CodesStand (S : List ℕ) (l : Layout) : Type 0 where
-  pub group : (x y i : ℕ) → i < l .groups
-      → groupIs S (l .first) x y i
-      ≡ all
-      (eqb (getD S (groupStart S (l .first) i + 4) 0) x
-      ∷ eqb (getD S (groupStart S (l .first) i + 5) 0) y
-      ∷ [])
-  pub firm : (C : List ℕ) (i : ℕ) → i < l .firms
-      → firmIs S (l .start) C i
-      ≡ all
-      (eqb (length C) 3
-      ∷ eqb (getD S (firmStart (l .start) i + 4) 0) (getD C 0 0)
-      ∷ eqb (getD S (firmStart (l .start) i + 5) 0) (getD C 1 0)
-      ∷ eqb (getD S (firmStart (l .start) i + 6) 0) (getD C 2 0)
-      ∷ [])
 
 -- of n records, i is the only one of which the test holds
 pub record Only (n : ℕ) (p : ℕ → Bool) (i : ℕ) : Type 0 where
