@@ -33,19 +33,10 @@ pub fn rest_at(s: &[u8], at: usize) -> &[u8]
 pub fn body_at(s: &[u8], at: usize) -> &[u8]
     ensures { λ r. ⌜ now r ≡ bodyAt (now (s .entry)) at ⌝ }
 {
-    if s.len() < 4 {
-        return &s[..0];
-    }
-    if s.len() - 4 < at {
-        return &s[..0];
-    }
+    let rest = rest_at(s, at);
     let len = u16_at(s, at) as usize;
     if len < 4 {
-        return &s[..0];
+        return &rest[..0];
     }
-    let start = at + 4;
-    if s.len() - at < len {
-        return &s[start..];
-    }
-    &s[start..at + len]
+    &rest[..least(len - 4, rest.len())]
 }
