@@ -118,27 +118,17 @@ sound-begin S =
 body-byte : (S : List ℕ) (at k : ℕ) → k + 4 < lengthAt S at → getD (bodyAt S at) k 0 ≡ getD (restAt S at) k 0
 body-byte S at k h = getD-take (lengthAt S at - 4) (restAt S at) k 0 (omega arith)
 
--- so a group's code is in its body
-module _ (S : List ℕ) (at : ℕ) (long : 5 < lengthAt S at) where
-  first-letter : groupFields (bodyAt S at) .first ≡ groupFields (restAt S at) .first
-  unfolding groupFields
-  first-letter = body-byte S at 0 (omega arith)
-
-  second-letter : groupFields (bodyAt S at) .second ≡ groupFields (restAt S at) .second
-  unfolding groupFields
-  second-letter = body-byte S at 1 (omega arith)
-
 -- a group whose code is not listed before it has no other's code
 new-group : (S : List ℕ) (l : Layout) → 5 < lengthAt S (groupStart S (l .first) (l .groups))
     → groupListed S l (groupFields (bodyAt S (groupStart S (l .first) (l .groups))) .first) (groupFields (bodyAt S (groupStart S (l .first) (l .groups))) .second) ≡ false
     → (x y : ℕ) → groupIs S (l .first) x y (l .groups) ≡ true → (i : ℕ) → i < l .groups → groupIs S (l .first) x y i ≡ false
-unfolding groupListed groupIs
+unfolding groupListed groupIs groupFields
 new-group S l long u x y e i h =
     let t = each _ e in
     let at = groupStart S (l .first) (l .groups) in
     let g = groupFields (bodyAt S at) in
-    let a : g .first ≡ x = first-letter S at long ∙ eqb-true _ _ (t .0) in
-    let b : g .second ≡ y = second-letter S at long ∙ eqb-true _ _ (t .1 .0) in
+    let a : g .first ≡ x = body-byte S at 0 (omega arith) ∙ eqb-true _ _ (t .0) in
+    let b : g .second ≡ y = body-byte S at 1 (omega arith) ∙ eqb-true _ _ (t .1 .0) in
     rw (a, b) at (none-at (l .groups) (groupIs S (l .first) (g .first) (g .second)) u i h)
 
 -- two codes of one firm are had by the same firms: both are its three letters
