@@ -40,12 +40,6 @@ test-first : (c : tie.After-is-activity Inv-loop μ-loop)
     → (let S = left (c .before .before .before .before) in c .is-activity .result ≡ isActivity (take (firstLength S) S))
 test-first c = rw (add-sub-cancel-left, measured (c .before .before) .first) at (c .is-activity .ensures)
 
-add-at : tie.Need-add-at Inv-loop μ-loop
-add-at c = omega (arith, measured (c .before .before .before))
-
-loop-less : tie.Need-loop-less Inv-loop μ-loop
-loop-less c = omega (arith, measured (c .before .before .before))
-
 loop-again : tie.Need-loop-again Inv-loop μ-loop
 loop-again c =
     let m = measured (c .before .before .before) in
@@ -70,4 +64,5 @@ pub schedule-end-spec : {M : Type 1} → statement M
 schedule-end-spec =
     tie.close (tie.spec Inv-loop μ-loop (λ c. (omega arith, omega arith)) (λ c. search needs) (λ c. search needs)
     (λ c. search needs) (λ c κs. search needs) (λ c. omega (arith, measured c)) (λ c. search needs) (λ c. search needs)
-    (λ c. omega (arith, measured c)) (λ c κs. search needs) add-at loop-less loop-again returns returns-2)
+    (λ c. omega (arith, measured c)) (λ c κs. search needs) (λ c. omega (arith, measured (c .before .before .before)))
+    (λ c. omega (arith, measured (c .before .before .before))) loop-again returns returns-2)

@@ -23,12 +23,6 @@ returns c =
 fits-in : (c : tie.Else1) → Fitting 1 (plus (read c .cell-at .result .totals) (start c .args .more))
 fits-in c = fitting 1 (plus (read c .cell-at .result .totals) (start c .args .more)) (yes (c .before .can-add .ensures) (c .if1 .left))
 
-add-t11 : tie.Need-add-t11
-add-t11 c = omega (arith, fits-in (c .before .before) .raw)
-
-add-t12 : tie.Need-add-t12
-add-t12 c = omega (arith, fits-in (c .before .before .before .before) .score)
-
 add-t13 : tie.Need-add-t13
 add-t13 c = omega (arith, fits-in (c .before .before .before .before .before .before) .lots)
 
@@ -42,5 +36,7 @@ returns-2 c =
 
 pub add-spec : {M : Type 1} → statement M
 add-spec =
-    tie.close (tie.spec (λ c κs. search needs) (λ c κs. search needs) (λ c. search needs) returns add-t11 add-t12 add-t13
-    (λ c κs. search needs) (λ c. search needs) returns-2)
+    tie.close (tie.spec (λ c κs. search needs) (λ c κs. search needs) (λ c. search needs) returns
+    (λ c. omega (arith, fits-in (c .before .before) .raw))
+    (λ c. omega (arith, fits-in (c .before .before .before .before) .score)) add-t13 (λ c κs. search needs) (λ c. search needs)
+    returns-2)

@@ -21,9 +21,6 @@ Inv-loop schedule starts₀ at₀ g₀ starts at g =
 abbrev μ-loop : tie.MeasureT-loop
 μ-loop schedule starts₀ at₀ g₀ starts at g = 32 - g
 
-loop-holds : tie.Need-loop-holds Inv-loop μ-loop
-loop-holds c = rw joined-none (omega arith, omega arith, sym (group-first _ _), refl)
-
 loop-again : tie.Need-loop-again Inv-loop μ-loop
 loop-again c =
     let l = c .before .before in
@@ -44,5 +41,6 @@ returns c =
 
 pub group-starts-spec : {M : Type 1} → statement M
 group-starts-spec =
-    tie.close (tie.spec Inv-loop μ-loop (λ c. search needs) loop-holds (λ c. search needs) (λ c. search needs)
+    tie.close (tie.spec Inv-loop μ-loop (λ c. search needs)
+    (λ c. rw joined-none (omega arith, omega arith, sym (group-first _ _), refl)) (λ c. search needs) (λ c. search needs)
     (λ c κs. search needs) (λ c. search needs) (λ c. search needs) (λ c. search needs) (λ c. search needs) loop-again returns)

@@ -25,9 +25,6 @@ Inv-loop p exempts groupings marks₀ left₀ i₀ marks left i =
 abbrev μ-loop : tie.MeasureT-loop
 μ-loop p exempts groupings marks₀ left₀ i₀ marks left i = places - i
 
-loop-holds : tie.Need-loop-holds Inv-loop μ-loop
-loop-holds c = rw (joined-none, sum-none, sum-none) (omega arith, refl, refl, refl)
-
 with-count-requires : tie.Need-with-count-requires Inv-loop μ-loop
 with-count-requires c κs =
     let l = c .before .before .before .before .before .before in
@@ -65,6 +62,7 @@ returns c =
 
 pub give-marks-spec : {M : Type 1} → statement M
 give-marks-spec =
-    tie.close (tie.spec Inv-loop μ-loop loop-holds (λ c. search needs) (λ c. search needs) (λ c. search needs)
-    (λ c κs. search needs) (λ c κs. search needs) (λ c. search needs) (λ c κs. search needs) (λ c. search needs)
-    with-count-requires (λ c. search needs) (λ c. search needs) loop-again returns)
+    tie.close (tie.spec Inv-loop μ-loop (λ c. rw (joined-none, sum-none, sum-none) (omega arith, refl, refl, refl))
+    (λ c. search needs) (λ c. search needs) (λ c. search needs) (λ c κs. search needs) (λ c κs. search needs)
+    (λ c. search needs) (λ c κs. search needs) (λ c. search needs) with-count-requires (λ c. search needs) (λ c. search needs)
+    loop-again returns)

@@ -17,9 +17,6 @@ returns c =
     let none : lengthAt (now (a .s)) (a .at) - 4 ≡ 0 = omega (arith, c .before .before .u16-at .ensures, c .before .if1 .taken) in
     rw none
 
-slice-aggregate-result-2 : tie.Need-slice-aggregate-result-2
-slice-aggregate-result-2 c = sym (length-take-le _ _ (omega (arith, c .before .least .ensures)))
-
 returns-2 : tie.Need-returns-2
 returns-2 c =
     let len = c .before .before .before .u16-at in
@@ -31,4 +28,4 @@ returns-2 c =
 pub body-at-spec : {M : Type 1} → statement M
 body-at-spec =
     tie.close (tie.spec (λ c κs. search needs) (λ c κs. search needs) (λ c. search needs) (λ c. search needs) returns
-    (λ c κs. search needs) slice-aggregate-result-2 returns-2)
+    (λ c κs. search needs) (λ c. sym (length-take-le _ _ (omega (arith, c .before .least .ensures)))) returns-2)

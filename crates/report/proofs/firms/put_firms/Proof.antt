@@ -16,9 +16,6 @@ Inv-loop out₀ schedule l book firms next₀ f₀ out next f = Wrote out₀ nex
 abbrev μ-loop : tie.MeasureT-loop
 μ-loop out₀ schedule l book firms next₀ f₀ out next f = firms - f
 
-loop-less : tie.Need-loop-less Inv-loop μ-loop
-loop-less c = omega (arith, c .before .before .before .before .loop-test .taken)
-
 loop-again : tie.Need-loop-again Inv-loop μ-loop
 loop-again c =
     let wrote = c .before .before in
@@ -39,4 +36,5 @@ returns c =
 pub put-firms-spec : {M : Type 1} → statement M
 put-firms-spec =
     tie.close (tie.spec Inv-loop μ-loop (λ c. search needs) (λ c. (wrote-first _ _ _, omega arith)) (λ c κs. search needs)
-    (λ c. search needs) loop-less loop-again (λ c. wrote-length (c .before .loop .inv .0)) returns)
+    (λ c. search needs) (λ c. omega (arith, c .before .before .before .before .loop-test .taken)) loop-again
+    (λ c. wrote-length (c .before .loop .inv .0)) returns)

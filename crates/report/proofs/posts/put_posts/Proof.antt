@@ -31,12 +31,6 @@ measured : (c : tie.After-first-len Inv-loop μ-loop)
     → CutAt (now (start (c .before .before) .args .run)) (c .before .before .before .loop .from) (c .first-len .result)
 measured c = cut-at _ _ _ (c .before .before .loop-test .taken) (c .first-len .ensures)
 
-add-put-post : tie.Need-add-put-post Inv-loop μ-loop
-add-put-post c = omega (arith, measured (c .before .before) .most)
-
-part-put-post-end : tie.Need-part-put-post-end Inv-loop μ-loop
-part-put-post-end c = omega (arith, measured (c .before .before) .most)
-
 loop-less : tie.Need-loop-less Inv-loop μ-loop
 loop-less c =
     let m = measured (measuring c) in
@@ -60,6 +54,7 @@ returns c = posting-all _ _ _ _ _ (c .before .loop .inv) (c .loop-test .left)
 pub put-posts-spec : {M : Type 1} → statement M
 put-posts-spec =
     tie.close (tie.spec Inv-loop μ-loop (λ c. posting-none _ _ _ _ _) (λ c. c .before .loop .inv .inside) (λ c. search needs)
-    (λ c. search needs) (λ c κs. search needs) add-put-post (λ c. search needs) (λ c. search needs) part-put-post-end
-    (λ c κs. search needs) (λ c. omega (arith, measured (measuring c) .most)) loop-less loop-again
-    (λ c. wrote-length (c .before .loop .inv .wrote)) (λ c. c .before .loop .inv .kept) returns)
+    (λ c. search needs) (λ c κs. search needs) (λ c. omega (arith, measured (c .before .before) .most)) (λ c. search needs)
+    (λ c. search needs) (λ c. omega (arith, measured (c .before .before) .most)) (λ c κs. search needs)
+    (λ c. omega (arith, measured (measuring c) .most)) loop-less loop-again (λ c. wrote-length (c .before .loop .inv .wrote))
+    (λ c. c .before .loop .inv .kept) returns)
