@@ -1,8 +1,8 @@
 // The lines of the answers.
-use crate::hex::put_hex;
 use book::Opened;
 use book::Posted;
 use libc::STDOUT_FILENO;
+use script::put_hex;
 use text::Line;
 use text::Place;
 use text::put_line;

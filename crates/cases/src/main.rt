@@ -1,9 +1,7 @@
 // Runs a script of calls and prints the answer of each.
 mod answers;
 mod commands;
-mod digest;
-mod hex;
-mod script;
+mod state;
 
 use answers::say;
 use commands::run_book;
@@ -17,7 +15,7 @@ use commands::run_write;
 use commands::stop;
 use libc::STDIN_FILENO;
 use script::Piece;
-use script::State;
+use state::State;
 use wire::byte_at;
 ghost use Prim.Native.Nat.{_<_};
 ghost use lib.ListN.{length};
