@@ -23,9 +23,6 @@ groups c = c .before .before .before .before
 sound : (s : tie.Start) → let a = s .args in Sound (now (a .schedule)) (a .l) (totalsIn (a .l .groups) (now (a .book)) (a .firm))
 sound s = record { checked = sized _ _ (s .pre .0 .checked) .schedule; within = s .pre .1 }
 
-fill-codes-requires : tie.Need-fill-codes-requires
-fill-codes-requires c κs = let e = c .before in (e .before .before .group-starts .ensures, sound (start e))
-
 fill-exempts-requires : tie.Need-fill-exempts-requires
 fill-exempts-requires c κs = let e = c .before .before .before in (e .before .before .group-starts .ensures, sound (start e))
 
@@ -60,5 +57,6 @@ returns c =
 
 pub judged-month-spec : {M : Type 1} → statement M
 judged-month-spec =
-    tie.close (tie.spec (λ c κs. search needs) (λ c κs. search needs) fill-codes-requires fill-exempts-requires
+    tie.close (tie.spec (λ c κs. search needs) (λ c κs. search needs)
+    (λ c κs. let e = c .before in (e .before .before .group-starts .ensures, sound (start e))) fill-exempts-requires
     (λ c κs. search needs) give-marks-requires returns)

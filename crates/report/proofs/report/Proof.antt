@@ -4,12 +4,8 @@ use Rattle.report.proofs.Answers.{is-whole, is-cut}
 use Rattle.report.proofs.report.Statement.{statement}
 use Rattle.report.proofs.report.Tie as tie
 
-returns : tie.Need-returns
-returns c = is-whole (c .before .before .before .put-report .ensures) (c .if1 .taken)
-
-returns-2 : tie.Need-returns-2
-returns-2 c = is-cut (c .before .before .before .put-report .ensures) (c .if1 .left)
-
 pub report-spec : {M : Type 1} → statement M
 report-spec =
-    tie.close (tie.spec (λ c. search needs) (λ c. search needs) returns (λ c. search needs) returns-2)
+    tie.close (tie.spec (λ c. search needs) (λ c. search needs)
+    (λ c. is-whole (c .before .before .before .put-report .ensures) (c .if1 .taken)) (λ c. search needs)
+    (λ c. is-cut (c .before .before .before .put-report .ensures) (c .if1 .left)))

@@ -21,9 +21,6 @@ loop-holds c =
     let a = c .before .before .before .args in
     (paste-zero (a .out .now) (a .place .at) (a .text .now), omega arith, refl)
 
-shared-slice-read-out : tie.Need-shared-slice-read-out Inv-loop μ-loop
-shared-slice-read-out c = omega (arith, c .before .before .before .room .ensures, c .before .loop-test .taken)
-
 slice-write-out : tie.Need-slice-write-out Inv-loop μ-loop
 slice-write-out c =
     let turn = c .before .before in
@@ -54,6 +51,7 @@ returns c =
 
 pub put-spec : {M : Type 1} → statement M
 put-spec =
-    tie.close (tie.spec Inv-loop μ-loop (λ c κs. search needs) loop-holds shared-slice-read-out (λ c. search needs)
+    tie.close (tie.spec Inv-loop μ-loop (λ c κs. search needs) loop-holds
+    (λ c. omega (arith, c .before .before .before .room .ensures, c .before .loop-test .taken)) (λ c. search needs)
     slice-write-out (λ c. search needs) (λ c. omega (arith, c .before .loop-test .taken)) loop-again (λ c. search needs)
     (λ c. c .before .before .loop .inv .2) returns)

@@ -23,9 +23,6 @@ returns c =
 fits-in : (c : tie.Else1) → Fitting 1 (plus (read c .cell-at .result .totals) (start c .args .more))
 fits-in c = fitting 1 (plus (read c .cell-at .result .totals) (start c .args .more)) (yes (c .before .can-add .ensures) (c .if1 .left))
 
-add-t13 : tie.Need-add-t13
-add-t13 c = omega (arith, fits-in (c .before .before .before .before .before .before) .lots)
-
 returns-2 : tie.Need-returns-2
 returns-2 c =
     let sums = c .before .before .before .before in
@@ -38,5 +35,6 @@ pub add-spec : {M : Type 1} → statement M
 add-spec =
     tie.close (tie.spec (λ c κs. search needs) (λ c κs. search needs) (λ c. search needs) returns
     (λ c. omega (arith, fits-in (c .before .before) .raw))
-    (λ c. omega (arith, fits-in (c .before .before .before .before) .score)) add-t13 (λ c κs. search needs) (λ c. search needs)
-    returns-2)
+    (λ c. omega (arith, fits-in (c .before .before .before .before) .score))
+    (λ c. omega (arith, fits-in (c .before .before .before .before .before .before) .lots)) (λ c κs. search needs)
+    (λ c. search needs) returns-2)

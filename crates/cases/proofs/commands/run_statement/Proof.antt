@@ -10,7 +10,8 @@ use Rattle.cases.proofs.commands.run_statement.Tie as tie
 
 returns-2 : tie.Need-returns-2
 returns-2 c =
-    let p = c .before .before .before .before .before .before .before .before .before .before .before in
+    let held = c .before .before .before .before .before .before .before in
+    let p : tie.After-piece-at = held .before .before .before .before in
     let a = p .before .before .before .args in
     let h = ends-past (a .script .now) (a .state .at) (p .piece-at .ensures) in
     omega arith

@@ -4,11 +4,7 @@ use borrow.Author.Needs.{needs}
 use Rattle.contracts.proofs.counted.is_late.Statement.{statement}
 use Rattle.contracts.proofs.counted.is_late.Tie as tie
 
-returns : tie.Need-returns
-returns c = simp (lt-leb _ _ (c .if1 .taken))
-
-returns-2 : tie.Need-returns-2
-returns-2 c = simp (le-leb _ _ (c .before .if1 .left)) (c .in-mask .ensures)
-
 pub is-late-spec : {M : Type 1} → statement M
-is-late-spec = tie.close (tie.spec (λ c. search needs) returns (λ c κs. search needs) returns-2)
+is-late-spec =
+    tie.close (tie.spec (λ c. search needs) (λ c. simp (lt-leb _ _ (c .if1 .taken))) (λ c κs. search needs)
+    (λ c. simp (le-leb _ _ (c .before .if1 .left)) (c .in-mask .ensures)))

@@ -36,9 +36,6 @@ Inv-loop body g n front₀ extra₀ i₀ front extra i =
 abbrev μ-loop : tie.MeasureT-loop
 μ-loop body g n front₀ extra₀ i₀ front extra i = n - i
 
-loop-holds : tie.Need-loop-holds Inv-loop μ-loop
-loop-holds c = (search needs, search needs, search needs, sym (sum-none _), sym (sum-none _))
-
 loop-again : tie.Need-loop-again Inv-loop μ-loop
 loop-again c =
     let l = c .before .before .before .before .before .before in
@@ -61,6 +58,7 @@ returns c =
 pub passed-before-spec : {M : Type 1} → statement M
 unfolding listed
 passed-before-spec =
-    tie.close (tie.spec Inv-loop μ-loop loop-holds (λ c κs. search needs) (λ c κs. search needs) (λ c κs. search needs)
-    (λ c. search needs) (λ c. omega arith) (λ c κs. search needs) (λ c κs. search needs) (λ c. search needs) (λ c. omega arith) (λ c. omega arith)
-    (λ c. search needs) loop-again returns)
+    tie.close (tie.spec Inv-loop μ-loop (λ c. (search needs, search needs, search needs, sym (sum-none _), sym (sum-none _)))
+    (λ c κs. search needs) (λ c κs. search needs) (λ c κs. search needs) (λ c. search needs) (λ c. omega arith)
+    (λ c κs. search needs) (λ c κs. search needs) (λ c. search needs) (λ c. omega arith) (λ c. omega arith) (λ c. search needs)
+    loop-again returns)

@@ -13,12 +13,8 @@ cast-result c = omega (arith, ap (λ v. codeIn (verdictMeaning v)) (c .before .v
 returns : tie.Need-returns
 returns c = sym (ap (λ v. codeIn (verdictMeaning v)) (c .before .v .given .1))
 
-returns-2 : tie.Need-returns-2
-returns-2 c = sym (ap (λ v. codeIn (verdictMeaning v)) (c .enum-told .given .1))
-
-returns-3 : tie.Need-returns-3
-returns-3 c = sym (ap (λ v. codeIn (verdictMeaning v)) (c .enum-told2 .given .1))
-
 pub code-of-spec : {M : Type 1} → statement M
 code-of-spec =
-    tie.close (tie.spec (λ c. search needs) cast-result (λ c. search needs) (λ c. search needs) returns returns-2 returns-3)
+    tie.close (tie.spec (λ c. search needs) cast-result (λ c. search needs) (λ c. search needs) returns
+    (λ c. sym (ap (λ v. codeIn (verdictMeaning v)) (c .enum-told .given .1)))
+    (λ c. sym (ap (λ v. codeIn (verdictMeaning v)) (c .enum-told2 .given .1))))

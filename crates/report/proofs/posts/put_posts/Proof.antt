@@ -48,13 +48,10 @@ loop-again c =
     let book = rw record-is at (post .ensures .1) in
     rw (m .first) (posting-next _ _ _ _ _ (turn .before .loop .inv) (turn .loop-test .taken) line book (post .kept .1 .1 .1 .0))
 
-returns : tie.Need-returns Inv-loop μ-loop
-returns c = posting-all _ _ _ _ _ (c .before .loop .inv) (c .loop-test .left)
-
 pub put-posts-spec : {M : Type 1} → statement M
 put-posts-spec =
     tie.close (tie.spec Inv-loop μ-loop (λ c. posting-none _ _ _ _ _) (λ c. c .before .loop .inv .inside) (λ c. search needs)
     (λ c. search needs) (λ c κs. search needs) (λ c. omega (arith, measured (c .before .before) .most)) (λ c. search needs)
     (λ c. search needs) (λ c. omega (arith, measured (c .before .before) .most)) (λ c κs. search needs)
     (λ c. omega (arith, measured (measuring c) .most)) loop-less loop-again (λ c. wrote-length (c .before .loop .inv .wrote))
-    (λ c. c .before .loop .inv .kept) returns)
+    (λ c. c .before .loop .inv .kept) (λ c. posting-all _ _ _ _ _ (c .before .loop .inv) (c .loop-test .left)))

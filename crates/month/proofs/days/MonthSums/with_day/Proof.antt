@@ -5,9 +5,6 @@ use Rattle.rules.proofs.Codes.{fitting}
 use Rattle.month.proofs.days.MonthSums.with_day.Statement.{statement}
 use Rattle.month.proofs.days.MonthSums.with_day.Tie as tie
 
-add-t3 : tie.Need-add-t3
-add-t3 c = omega (arith, fitting 1 (c .before .before .args .t) (c .before .before .pre .1))
-
 add-t4 : tie.Need-add-t4
 add-t4 c = omega (arith, fitting 1 (c .before .before .before .before .args .t) (c .before .before .before .before .pre .1))
 
@@ -17,4 +14,6 @@ add-t5 c =
     omega (arith, fitting 1 (s .args .t) (s .pre .1))
 
 pub with-day-spec : {M : Type 1} → statement M
-with-day-spec = tie.close (tie.spec add-t3 add-t4 add-t5 (λ c. search needs) (λ c. search needs))
+with-day-spec =
+    tie.close (tie.spec (λ c. omega (arith, fitting 1 (c .before .before .args .t) (c .before .before .pre .1))) add-t4 add-t5
+    (λ c. search needs) (λ c. search needs))
