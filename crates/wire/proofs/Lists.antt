@@ -104,6 +104,25 @@ module _ {A : Type 0} where
       pub joined-kept : i ≤ n → length (over (joined i f) xs) ≡ length xs
       joined-kept h = length-over (joined i f) xs (le-trans (joined-le i n h) room)
 
+    -- the lists of the first places come first
+    pub joined-front : (i n : ℕ) → i ≤ n → joined n f ≡ joined i f ++ drop (length (joined i f)) (joined n f)
+    unfolding joined
+    joined-front i zero h = let e : i ≡ 0 = omega arith in rw e
+    joined-front i (suc n) h =
+        ⊎-elim (λ e. rw e (sym (ap (λ ys. joined (suc n) f ++ ys) (drop-of-length-le (joined (suc n) f) {i = length (joined (suc n) f)} (le-refl _)) ∙ append-nil _)))
+        (λ (lt : i < suc n).
+        let more = ap (λ ys. ys ++ f n) (joined-front i n (omega arith)) ∙ append-assoc (joined i f) (drop (length (joined i f)) (joined n f)) (f n) in
+        more ∙ ap (λ ys. joined i f ++ ys) (sym (ap (drop (length (joined i f))) more ∙ drop-at (joined i f) _ _ refl)))
+        (eq-or-lt-of-le h)
+
+    -- what stands behind the lists of the places before i starts with that of place i
+    pub joined-behind : (i n : ℕ) → i < n → (ys : List A)
+        → drop (length (joined i f)) (joined n f ++ ys) ≡ f i ++ (drop (length (joined (i + 1) f)) (joined n f) ++ ys)
+    joined-behind i n h ys =
+        ap (λ xs. drop (length (joined i f)) (xs ++ ys)) (joined-front (i + 1) n (omega arith) ∙ ap (λ xs. xs ++ drop (length (joined (i + 1) f)) (joined n f)) (joined-more i))
+        ∙ ap (drop (length (joined i f))) (append-assoc (joined i f ++ f i) _ ys ∙ append-assoc (joined i f) (f i) _)
+        ∙ drop-at (joined i f) _ _ refl
+
   -- what is the same below n joins to the same list
   pub joined-same : (n : ℕ) (f g : ℕ → List A) → ((i : ℕ) → i < n → f i ≡ g i) → joined n f ≡ joined n g
   unfolding joined
