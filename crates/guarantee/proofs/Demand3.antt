@@ -96,17 +96,17 @@ one-of x w = ⊎-elim (λ p. rw p) (λ p. rw p) (one-or-two x w)
 
 -- the bytes of a month whose violations are all of the grouping 1 or 2
 module _ (S : List ℕ) (l : Layout) (j : Judged) (grouped : Grouped j) where
-  in-groupings : count places (λ i. isViolation (j .code i)) ≡ violations j 1 + violations j 2
+  in-groupings : count places (λ i. isViolation (j .verdict i .code)) ≡ violations j 1 + violations j 2
   in-groupings =
       sum-same places _ _ (λ i h.
-      one-bit (isViolation (j .code i)) (eqb (j .grouping i) 1) (eqb (j .grouping i) 2) (λ v. one-of (j .grouping i) (grouped i h v)))
-      ∙ sum-add places (λ i. bit (eqb (j .grouping i) 1 && isViolation (j .code i))) (λ i. bit (eqb (j .grouping i) 2 && isViolation (j .code i)))
+      one-bit (isViolation (j .verdict i .code)) (eqb (j .grouping i) 1) (eqb (j .grouping i) 2) (λ v. one-of (j .grouping i) (grouped i h v)))
+      ∙ sum-add places (λ i. bit (eqb (j .grouping i) 1 && isViolation (j .verdict i .code))) (λ i. bit (eqb (j .grouping i) 2 && isViolation (j .verdict i .code)))
 
   abbrev front : List ℕ
-  front = lines version96 (groupAt S l) (mark version96 j)
+  front = lines version96 (groupAt S l) (mark version96 j) (λ i. j .verdict i .factor)
 
   lines-end : length front ≡ afterLines j
-  lines-end = lines-length version96 (groupAt S l) (mark version96 j) places ∙ ap (λ (n : ℕ). lineSize * n) (marks-count version96 j ∙ in-groupings)
+  lines-end = lines-length version96 (groupAt S l) (mark version96 j) _ places ∙ ap (λ (n : ℕ). lineSize * n) (marks-count version96 j ∙ in-groupings)
 
   bytes-end : length (statementBytes S l j) ≡ afterLines j + bothTotals
   bytes-end = bytes-length S l j ∙ ap (λ (n : ℕ). lineSize * n + bothTotals) in-groupings
@@ -134,9 +134,9 @@ module _ (S : List ℕ) (l : Layout) (j : Judged) (grouped : Grouped j) where
       (length-append front (totalsOf 1) ∙ ap (λ (n : ℕ). n + totalsSize) lines-end)
 
 -- what a statement of the month j comes to that nothing refuses
-record Written (S B C out : List ℕ) (l : Layout) (j : Judged) : Type 0 where
-  answer : statementAnswer S B C out ≡ good (length (statementBytes S l j))
-  output : statementOutput S B C out ≡ over (statementBytes S l j) out
+pub record Written (S B C out : List ℕ) (l : Layout) (j : Judged) : Type 0 where
+  pub answer : statementAnswer S B C out ≡ good (length (statementBytes S l j))
+  pub output : statementOutput S B C out ≡ over (statementBytes S l j) out
 
 -- where 1 to 8, 21 and 22 do not refuse, the statement is written, if 23 does not
 module _ (S B C out : List ℕ) (l : Layout) (judged : monthAnswer S B C ≡ good l) where
@@ -198,7 +198,8 @@ abbrev bytesAfter : (S C : List ℕ) → (rs : List (List ℕ)) → List ℕ
 bytesAfter S C rs = statementBytes S (layout S) (monthAfter S C rs)
 
 module _ (S C : List ℕ) (listed : isListed S C ≡ true) where
-  run : (p : Run S C) → Written S (posted S (openBook S (p .book)) (p .posts)) C (p .output) (layout S) (monthAfter S C (p .posts))
+  -- its statement after a list is that of its accepted totals
+  pub run : (p : Run S C) → Written S (posted S (openBook S (p .book)) (p .posts)) C (p .output) (layout S) (monthAfter S C (p .posts))
   run p =
       let s = opens S (p .book) (p .opened) in
       stated S C (layout S) (s .schedule) (p .book) (p .posts) listed (p .opened) (s .room) (p .output) (p .enough)

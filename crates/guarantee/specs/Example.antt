@@ -11,7 +11,7 @@ use Rattle.wire.specs.Choose.{choose, all, seekIn}
 use Rattle.wire.specs.Lists.{joined, table}
 use Rattle.wire.specs.Sums.{sum, count}
 use Rattle.calendar.specs.Calendar.{daysIn}
-use Rattle.rules.specs.Verdict.{code}
+use Rattle.rules.specs.Verdict.{verdict}
 use Rattle.rules.specs.declared.Totals.{Totals}
 use Rattle.records.specs.Fields.{headFields, headOk, groupFields, groupInRange, isLetter, firmFields, firmOk, hasCode}
 use Rattle.contracts.specs.Listing.{contractsOk, contractBad, before, contract, listed}
@@ -45,17 +45,25 @@ fifth first second day lots = orders first second day 39000 53000 30000 lots
 abbrev ninth : (first second day : ℕ) → List ℕ
 ninth first second day = orders first second day 0 60001 0 1000
 
+-- the seventh (20,001, 3, 0): code 5, in the lowest tier
+abbrev seventh : (first second day : ℕ) → List ℕ
+seventh first second day = orders first second day 20000 0 1 0
+
+-- the eleventh (40,001, 30,000, 1,000): code 4, in the middle tier
+abbrev eleventh : (first second day : ℕ) → List ℕ
+eleventh first second day = orders first second day 10001 30000 0 1000
+
 -- document 01's whole run
 abbrev pub run : List (List ℕ)
 run = fifth 69 83 1 10000 ∷ fifth 69 83 2 10000 ∷ fifth 69 83 3 10000 ∷ ninth 69 83 4 ∷ []
 
--- its statement: two days automatic, one billed, one severe; grouping 1: 4 0 2 2 2000; grouping 2: 0 0 0 0 0
+-- its statement: two days automatic, one billed, one severe, all in the highest tier; grouping 1: 4 0 2 2 2000; grouping 2: 0 0 0 0 0
 abbrev runBytes : List ℕ
 runBytes =
-    (12 ∷ 0 ∷ 16 ∷ 0 ∷ 1 ∷ 69 ∷ 83 ∷ 4 ∷ 0 ∷ 0 ∷ 0 ∷ 0 ∷ [])
-    ++ (12 ∷ 0 ∷ 16 ∷ 0 ∷ 2 ∷ 69 ∷ 83 ∷ 4 ∷ 0 ∷ 0 ∷ 0 ∷ 0 ∷ [])
-    ++ (12 ∷ 0 ∷ 16 ∷ 0 ∷ 3 ∷ 69 ∷ 83 ∷ 2 ∷ 232 ∷ 3 ∷ 0 ∷ 0 ∷ [])
-    ++ (12 ∷ 0 ∷ 16 ∷ 0 ∷ 4 ∷ 69 ∷ 83 ∷ 1 ∷ 232 ∷ 3 ∷ 0 ∷ 0 ∷ [])
+    (13 ∷ 0 ∷ 18 ∷ 0 ∷ 1 ∷ 69 ∷ 83 ∷ 4 ∷ 0 ∷ 0 ∷ 0 ∷ 0 ∷ 1 ∷ [])
+    ++ (13 ∷ 0 ∷ 18 ∷ 0 ∷ 2 ∷ 69 ∷ 83 ∷ 4 ∷ 0 ∷ 0 ∷ 0 ∷ 0 ∷ 1 ∷ [])
+    ++ (13 ∷ 0 ∷ 18 ∷ 0 ∷ 3 ∷ 69 ∷ 83 ∷ 2 ∷ 232 ∷ 3 ∷ 0 ∷ 0 ∷ 1 ∷ [])
+    ++ (13 ∷ 0 ∷ 18 ∷ 0 ∷ 4 ∷ 69 ∷ 83 ∷ 1 ∷ 232 ∷ 3 ∷ 0 ∷ 0 ∷ 1 ∷ [])
     ++ (18 ∷ 0 ∷ 17 ∷ 0 ∷ 1 ∷ 0 ∷ 4 ∷ 0 ∷ 0 ∷ 0 ∷ 2 ∷ 0 ∷ 2 ∷ 0 ∷ 208 ∷ 7 ∷ 0 ∷ 0 ∷ [])
     ++ (18 ∷ 0 ∷ 17 ∷ 0 ∷ 2 ∷ 0 ∷ 0 ∷ 0 ∷ 0 ∷ 0 ∷ 0 ∷ 0 ∷ 0 ∷ 0 ∷ 0 ∷ 0 ∷ 0 ∷ 0 ∷ [])
 
@@ -63,21 +71,21 @@ runBytes =
 abbrev pub threeGroups : List ℕ
 threeGroups = head 2 ++ group 69 83 1 ++ group 67 76 2 ++ group 90 67 1 ++ firm
 
--- one failing day more in ES on the day not in effect, one in CL, and one in ZC, which has many lots on another day
+-- one failing day more in ES on the day not in effect, one in CL, and one in ZC, which has many lots on another day; in each tier one at least
 abbrev pub manyMarks : List (List ℕ)
 manyMarks =
-    fifth 69 83 1 10000 ∷ fifth 69 83 2 10000 ∷ fifth 69 83 3 10000 ∷ fifth 69 83 4 10000 ∷ ninth 69 83 5
-    ∷ fifth 67 76 1 10000 ∷ fifth 90 67 1 10000 ∷ orders 90 67 6 1 0 0 1000000 ∷ []
+    fifth 69 83 1 10000 ∷ fifth 69 83 2 10000 ∷ fifth 69 83 3 10000 ∷ fifth 69 83 4 10000 ∷ seventh 69 83 5
+    ∷ eleventh 67 76 1 ∷ fifth 90 67 1 10000 ∷ orders 90 67 6 1 0 0 1000000 ∷ []
 
--- by day, then by the group's place: the waivers of CL are its own, and ZC is exempt; grouping 1: 5 1 2 2 2000; grouping 2: 1 0 1 0 0
+-- by day, then by the group's place: the waivers of CL are its own, and ZC is exempt; each line has its own day's factor; grouping 1: 5 1 2 2 2000; grouping 2: 1 0 1 0 0
 abbrev manyBytes : List ℕ
 manyBytes =
-    (12 ∷ 0 ∷ 16 ∷ 0 ∷ 1 ∷ 69 ∷ 83 ∷ 4 ∷ 0 ∷ 0 ∷ 0 ∷ 0 ∷ [])
-    ++ (12 ∷ 0 ∷ 16 ∷ 0 ∷ 1 ∷ 67 ∷ 76 ∷ 4 ∷ 0 ∷ 0 ∷ 0 ∷ 0 ∷ [])
-    ++ (12 ∷ 0 ∷ 16 ∷ 0 ∷ 1 ∷ 90 ∷ 67 ∷ 3 ∷ 0 ∷ 0 ∷ 0 ∷ 0 ∷ [])
-    ++ (12 ∷ 0 ∷ 16 ∷ 0 ∷ 3 ∷ 69 ∷ 83 ∷ 4 ∷ 0 ∷ 0 ∷ 0 ∷ 0 ∷ [])
-    ++ (12 ∷ 0 ∷ 16 ∷ 0 ∷ 4 ∷ 69 ∷ 83 ∷ 2 ∷ 232 ∷ 3 ∷ 0 ∷ 0 ∷ [])
-    ++ (12 ∷ 0 ∷ 16 ∷ 0 ∷ 5 ∷ 69 ∷ 83 ∷ 1 ∷ 232 ∷ 3 ∷ 0 ∷ 0 ∷ [])
+    (13 ∷ 0 ∷ 18 ∷ 0 ∷ 1 ∷ 69 ∷ 83 ∷ 4 ∷ 0 ∷ 0 ∷ 0 ∷ 0 ∷ 1 ∷ [])
+    ++ (13 ∷ 0 ∷ 18 ∷ 0 ∷ 1 ∷ 67 ∷ 76 ∷ 4 ∷ 0 ∷ 0 ∷ 0 ∷ 0 ∷ 2 ∷ [])
+    ++ (13 ∷ 0 ∷ 18 ∷ 0 ∷ 1 ∷ 90 ∷ 67 ∷ 3 ∷ 0 ∷ 0 ∷ 0 ∷ 0 ∷ 1 ∷ [])
+    ++ (13 ∷ 0 ∷ 18 ∷ 0 ∷ 3 ∷ 69 ∷ 83 ∷ 4 ∷ 0 ∷ 0 ∷ 0 ∷ 0 ∷ 1 ∷ [])
+    ++ (13 ∷ 0 ∷ 18 ∷ 0 ∷ 4 ∷ 69 ∷ 83 ∷ 2 ∷ 232 ∷ 3 ∷ 0 ∷ 0 ∷ 1 ∷ [])
+    ++ (13 ∷ 0 ∷ 18 ∷ 0 ∷ 5 ∷ 69 ∷ 83 ∷ 1 ∷ 232 ∷ 3 ∷ 0 ∷ 0 ∷ 3 ∷ [])
     ++ (18 ∷ 0 ∷ 17 ∷ 0 ∷ 1 ∷ 0 ∷ 5 ∷ 0 ∷ 1 ∷ 0 ∷ 2 ∷ 0 ∷ 2 ∷ 0 ∷ 208 ∷ 7 ∷ 0 ∷ 0 ∷ [])
     ++ (18 ∷ 0 ∷ 17 ∷ 0 ∷ 2 ∷ 0 ∷ 1 ∷ 0 ∷ 0 ∷ 0 ∷ 1 ∷ 0 ∷ 0 ∷ 0 ∷ 0 ∷ 0 ∷ 0 ∷ 0 ∷ [])
 
@@ -114,10 +122,10 @@ abbrev pub daysWhere : ((t′ t : Totals) → Bool) → (S C : List ℕ) → (fi
 daysWhere isSo S C first second = count 31 (λ i. isSo (totalsAfter S C second 0 (i + 1)) (totalsAfter S C first 0 (i + 1)))
 
 pub record Example : Type 0 where
-  pub runAnswer : answers schedule 1 run ≡ good 84
-  pub runOutput : leaves schedule 1 run ≡ runBytes ++ table 36 (λ i. 7)
-  pub manyAnswer : answers threeGroups 3 manyMarks ≡ good 108
-  pub manyOutput : leaves threeGroups 3 manyMarks ≡ manyBytes ++ table 12 (λ i. 7)
+  pub runAnswer : answers schedule 1 run ≡ good 88
+  pub runOutput : leaves schedule 1 run ≡ runBytes ++ table 32 (λ i. 7)
+  pub manyAnswer : answers threeGroups 3 manyMarks ≡ good 114
+  pub manyOutput : leaves threeGroups 3 manyMarks ≡ manyBytes ++ table 6 (λ i. 7)
   -- traffic falls: with more lots on day 3 it passes, and is billed no longer
   pub oneGroup : layout schedule .groups ≡ 1
   pub easedLighter : daysWhere isLighter schedule ABC run eased ≡ 31
@@ -138,7 +146,7 @@ pub example : Example
 unfolding acceptedCells posted postCause totalsOf checkBook checkOf scan ending withRecord cause isRepeated fieldsOk isFull lengthOk isDue kindOf
     firmListed groupListed firmIs groupIs groupStart firmOk firmFields hasCode groupInRange groupFields contractsOk contractBad before contract
     listed headOk headFields isLetter contractIs isCounted isAfter inFront contractCounted contractListed daysIn sum joined seekIn all choose u32At
-    u16At code anyExcess monthAnswer lineAt tally shown
+    u16At verdict anyExcess monthAnswer lineAt tally shown
 example =
     record {
       runAnswer = refl;

@@ -1,5 +1,5 @@
 -- Laws of a firm's month: where 22 does not refuse, no total of a day in effect is above the limit, so no sum over d counted days is above d
--- times it; a month's verdict then has a code, which says whether the month is exempt.
+-- times it; there is then a verdict on the month's sums, which says whether the month is exempt.
 use Prim.Native.Nat.{ℕ, _+_, _-_, _*_, _/_, _%_, _≤_, _<_, zero-le}
 use mathlib.Core.Bool.{Bool, true, false, cond, not, _&&_}
 use mathlib.Core.List.{List}
@@ -13,11 +13,11 @@ use Rattle.wire.specs.Sums.{sum, count}
 use Rattle.wire.proofs.Bools.{and-left, and-right, cond-le, cond-where, range}
 use Rattle.wire.proofs.Choose.{every, none-at}
 use Rattle.wire.proofs.Sums.{sum-more, sum-le, sum-most, sum-cost}
-use Rattle.rules.specs.Verdict.{version96, code, isViolation, limit, fits, isBenchmark, verdict}
+use Rattle.rules.specs.Verdict.{version96, verdict, isViolation, limit, fits, isBenchmark, daysVerdict}
 use Rattle.rules.specs.Month.{Terms, Cells, counted, overCounted, days, sums, exempt}
-use Rattle.rules.specs.Marks.{places, dayOf, groupOf, codeAt}
+use Rattle.rules.specs.Marks.{places, dayOf, groupOf, verdictAt}
 use Rattle.rules.specs.declared.Totals.{Totals}
-use Rattle.rules.proofs.Codes.{code-most, Fitting, fitting, exempt-code, verdict-code}
+use Rattle.rules.proofs.Codes.{Fitting, fitting, exempt-code, days-decided}
 use Rattle.calendar.specs.Calendar.{daysIn, inEffect}
 use Rattle.lookup.specs.Lookup.{groupAt}
 use Rattle.lookup.specs.declared.Layout.{Layout}
@@ -26,7 +26,7 @@ use Rattle.calendar.proofs.Laws.{days-most}
 use Rattle.lookup.specs.InForce.{rulesOf}
 use Rattle.book.specs.Book.{totalsIn}
 use Rattle.month.specs.Month.{terms, isExcess, anyExcess}
-use Rattle.month.specs.Parts.{Sound, Within, withDay, sumsTo, codeIn}
+use Rattle.month.specs.Parts.{Sound, Within, withDay, sumsTo, verdictIn}
 use Rattle.month.specs.declared.days.MonthSums.{MonthSums}
 
 -- a cell of a day in effect stands at one of the places that 22 looks at
@@ -42,20 +42,15 @@ module _ (S : List ℕ) {l : Layout} (c : Cells) (ok : Sound S l c) (g day : ℕ
       let z = none-at places (isExcess l c) (ok .within) i (omega arith) in
       not-false _ (simp (p, q, le-leb _ _ (r .most)) at z)
 
--- so the verdict on a cell of a listed group, on a day in effect, is the place's code
+-- so there is a verdict on a cell of a listed group, on a day in effect, and it is the place's
 pub verdict-place : (S : List ℕ) {l : Layout} (c : Cells) → Sound S l c → (i : ℕ)
     → (ltb (groupOf i) (l .groups) && inEffect (l .month) (l .closed) (dayOf i)) ≡ true
-    → codeIn (verdict 1 (c (groupOf i) (dayOf i)) (groupAt S l (groupOf i) .benchmark)) ≡ codeAt (rulesOf S) (terms S l) c i
+    → verdictIn (daysVerdict 1 (c (groupOf i) (dayOf i)) (groupAt S l (groupOf i) .benchmark)) ≡ verdictAt (rulesOf S) (terms S l) c i
 verdict-place S {l} c ok i e =
     let h = ltb-true (groupOf i) (l .groups) (and-left (ltb (groupOf i) (l .groups)) _ e) in
     let on = and-right (ltb (groupOf i) (l .groups)) _ e in
     let b = group-listed S (ok .checked) (groupOf i) h .benchmark in
-    rw e (ap codeIn (verdict-code 1 (c (groupOf i) (dayOf i)) (groupAt S l (groupOf i) .benchmark) (lit≤ tt) (cell-fits S c ok (groupOf i) (dayOf i) (omega arith) on) b))
-
--- and a code is small
-pub place-most : (S : List ℕ) (l : Layout) (c : Cells) (i : ℕ) → codeAt (rulesOf S) (terms S l) c i ≤ 5
-place-most S l c i =
-    cond-le (ltb (groupOf i) (l .groups) && inEffect (l .month) (l .closed) (dayOf i)) (code-most version96 _ 1 (c (groupOf i) (dayOf i))) (lit≤ tt)
+    rw e (ap verdictIn (days-decided 1 (c (groupOf i) (dayOf i)) (groupAt S l (groupOf i) .benchmark) (lit≤ tt) (cell-fits S c ok (groupOf i) (dayOf i) (omega arith) on) b))
 
 -- a day's sums, number by number
 day-more : (t : Bool) (s : MonthSums) (a : Totals)
@@ -110,15 +105,13 @@ module _ (s : Terms) (c : Cells) (g : ℕ) where
           ),
         )
 
-    -- so the verdict on a month's sums says whether it is exempt
-    pub month-code : isBenchmark (s .benchmark g) ≡ true
-        → codeIn (verdict (days s c g) (sums s c g) (s .benchmark g)) ≡ code version96 (s .benchmark g) (days s c g) (sums s c g)
-    month-code b = ap codeIn (verdict-code (days s c g) (sums s c g) (s .benchmark g) (days-under 31) sums-fit b)
-
+    -- so there is a verdict on a month's sums, and it says whether the month is exempt
     pub exempt-verdict : isBenchmark (s .benchmark g) ≡ true
-        → exempt version96 s c g ≡ not (isViolation (codeIn (verdict (days s c g) (sums s c g) (s .benchmark g))))
+        → exempt version96 s c g ≡ not (isViolation (verdictIn (daysVerdict (days s c g) (sums s c g) (s .benchmark g)) .code))
     exempt-verdict b =
-        exempt-code version96 (s .benchmark g) (days s c g) (sums s c g) ∙ ap (λ n. not (isViolation n)) (sym (month-code b))
+        let B = s .benchmark g in
+        let is = days-decided (days s c g) (sums s c g) B (days-under 31) sums-fit b in
+        exempt-code version96 B (days s c g) (sums s c g) ∙ ap (λ j. not (isViolation (verdictIn j .code))) (sym is)
 
   -- a month without messages is exempt
   pub exempt-none : ((day : ℕ) → c g day .raw ≤ 0) → exempt version96 s c g ≡ true

@@ -30,7 +30,7 @@ terms S l =
       grouping = λ g. groupAt S l g .grouping;
     }
 
--- The month: a firm's codes, exemptions and groupings, from its totals and by the rules in force
+-- The month: a firm's verdicts, exemptions and groupings, from its totals and by the rules in force
 abbrev pub monthOf : (S : List ℕ) → Layout → Cells → Judged
 monthOf S l c = judged (rulesOf S) (terms S l) c
 
@@ -79,6 +79,7 @@ pub record MonthIs (S B C : List ℕ) (r : Month) : Type 0 where
   pub answer : checkMeaning (r .answer) ≡ monthAnswer S B C
   pub starts : r .starts ≡ given (monthAnswer S B C) (replicate mostGroups 0) (startsOf S)
   pub groupings : r .groupings ≡ given (monthAnswer S B C) (replicate mostGroups 0) (groupingsOf S)
-  pub codes : r .codes ≡ given (monthAnswer S B C) (replicate places 0) (λ l. table places (firmMonth S B C l .code))
+  pub codes : r .codes ≡ given (monthAnswer S B C) (replicate places 0) (λ l. table places (λ i. firmMonth S B C l .verdict i .code))
+  pub factors : r .factors ≡ given (monthAnswer S B C) (replicate places 0) (λ l. table places (λ i. firmMonth S B C l .verdict i .factor))
   pub exempts : r .exempts ≡ given (monthAnswer S B C) (replicate mostGroups false) (λ l. exemptsOf S l (firmTotals S B C l))
   pub marks : r .marks ≡ given (monthAnswer S B C) (replicate places 0) (λ l. table places (mark (rulesOf S) (firmMonth S B C l)))

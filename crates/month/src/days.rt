@@ -1,9 +1,10 @@
-// A firm's days in the book: refusal 22, the codes of its places, the month's sums and exemptions.
+// A firm's days in the book: refusal 22, the verdicts on its places, the month's sums and exemptions.
 use crate::groups::group_of;
 use book::totals_in;
 use calendar::days_in;
 use calendar::in_effect;
 use lookup::Layout;
+use rules::DaysVerdict;
 use rules::GROUPS;
 use rules::PLACES;
 use rules::Totals;
@@ -14,14 +15,13 @@ use rules::is_violation;
 ghost use mathlib.Core.Bool.{true, false, cond};
 ghost use mathlib.Core.Path.{_≡_};
 ghost use Prim.Native.Nat.{_≤_, _<_};
-ghost use Rattle.wire.specs.Lists.{table};
-ghost use Rattle.rules.specs.Verdict.{fits, verdictMeaning};
+ghost use Rattle.rules.specs.Verdict.{fits, daysMeaning};
 ghost use Rattle.rules.specs.Month.{exempt};
-ghost use Rattle.rules.specs.Marks.{mostGroups, places, codeAt};
+ghost use Rattle.rules.specs.Marks.{mostGroups, places, verdictAt};
 ghost use Rattle.lookup.specs.InForce.{rulesOf};
 ghost use Rattle.book.specs.Book.{totalsIn};
 ghost use Rattle.month.specs.Month.{terms, isExcess, anyExcess, startsOf, exemptsOf};
-ghost use Rattle.month.specs.Parts.{Sound, Within, withDay, sumsTo, codeIn};
+ghost use Rattle.month.specs.Parts.{Sound, Within, withDay, sumsTo, verdictIn, VerdictsAre};
 
 // Whether place i is of a day of the month, and has a number above the limit.
 fn excess_at(l: Layout, book: &[u64], firm: u8, i: usize) -> bool
@@ -105,15 +105,14 @@ fn month_sums(schedule: &[u8], l: Layout, book: &[u64], firm: u8, group: u8) -> 
     sums
 }
 
-// The code of a verdict. Where 22 does not refuse, each verdict has one.
-fn code_of(v: Verdict) -> u8
-    requires { ⌜ codeIn (verdictMeaning v) ≤ 5 ⌝ }
-    ensures { λ r. ⌜ r ≡ codeIn (verdictMeaning v) ⌝ }
+// The verdict of an answer. Where 22 does not refuse, each answer has one.
+fn verdict_of(answer: DaysVerdict) -> Verdict
+    ensures { λ r. ⌜ r ≡ verdictIn (daysMeaning answer) ⌝ }
 {
-    match v {
-        Verdict::Code(n) => n as u8,
-        Verdict::Refused => 0,
-        Verdict::TooManyDays => 0,
+    match answer {
+        DaysVerdict::Decided(v) => v,
+        DaysVerdict::Refused => Verdict { code: 0, factor: 0 },
+        DaysVerdict::TooManyDays => Verdict { code: 0, factor: 0 },
     }
 }
 
@@ -141,7 +140,7 @@ fn is_exempt(
         score: s.score,
         lots: s.lots,
     };
-    !is_violation(code_of(days_verdict(s.days, t, benchmark)))
+    !is_violation(verdict_of(days_verdict(s.days, t, benchmark)).code)
 }
 
 // Which groups of the firm are exempt.
@@ -165,47 +164,56 @@ pub(crate) fn fill_exempts(
     exempts
 }
 
-// The code of place i: 0 past the last group and on a day that is not in effect.
-fn place_code(
+// The verdict on place i: past the last group and on a day that is not in effect nothing is judged.
+fn place_verdict(
     schedule: &[u8],
     l: Layout,
     book: &[u64],
     firm: u8,
     starts: &[usize; GROUPS],
     i: usize,
-) -> u8
+) -> Verdict
     requires { ⌜ i < places ⌝ }
     requires { ⌜ now starts ≡ startsOf (now schedule) l ⌝ }
     requires { ⌜ Sound (now schedule) l (totalsIn (l .groups) (now book) firm) ⌝ }
-    ensures { λ r. ⌜ r ≡ codeAt (rulesOf (now (schedule .entry))) (terms (now (schedule .entry)) l) (totalsIn (l .groups) (now (book .entry)) firm) i ⌝ }
+    ensures { λ r. ⌜ r ≡ verdictAt (rulesOf (now (schedule .entry))) (terms (now (schedule .entry)) l) (totalsIn (l .groups) (now (book .entry)) firm) i ⌝ }
 {
     let g = i % GROUPS;
     let day = (i / GROUPS + 1) as u8;
     if !((g < (l.groups as usize)) & in_effect(l.month, l.closed, day)) {
-        return 0;
+        return Verdict { code: 0, factor: 0 };
     }
     let benchmark = group_of(schedule, l, starts, g).benchmark as u64;
     let t = totals_in(book, l.groups, firm, g as u8, day);
-    code_of(days_verdict(1, t, benchmark))
+    verdict_of(days_verdict(1, t, benchmark))
 }
 
-// The codes of the firm's places, day by day.
-pub(crate) fn fill_codes(
+// The verdicts on the places of a month, held while marks are given.
+pub(crate) struct Verdicts {
+    pub codes: [u8; PLACES],
+    pub factors: [u8; PLACES],
+}
+
+// The verdicts on the firm's places, day by day.
+pub(crate) fn fill_verdicts(
     schedule: &[u8],
     l: Layout,
     book: &[u64],
     firm: u8,
     starts: &[usize; GROUPS],
-) -> [u8; PLACES]
+) -> Verdicts
     requires { ⌜ now starts ≡ startsOf (now schedule) l ⌝ }
     requires { ⌜ Sound (now schedule) l (totalsIn (l .groups) (now book) firm) ⌝ }
-    ensures { λ r. ⌜ r ≡ table places (codeAt (rulesOf (now (schedule .entry))) (terms (now (schedule .entry)) l) (totalsIn (l .groups) (now (book .entry)) firm)) ⌝ }
+    ensures { λ r. ⌜ VerdictsAre r (verdictAt (rulesOf (now (schedule .entry))) (terms (now (schedule .entry)) l) (totalsIn (l .groups) (now (book .entry)) firm)) ⌝ }
 {
     let mut codes = [0u8; PLACES];
+    let mut factors = [0u8; PLACES];
     let mut i: usize = 0;
     while i < PLACES {
-        codes[i] = place_code(schedule, l, book, firm, starts, i);
+        let v = place_verdict(schedule, l, book, firm, starts, i);
+        codes[i] = v.code;
+        factors[i] = v.factor;
         i += 1;
     }
-    codes
+    Verdicts { codes, factors }
 }

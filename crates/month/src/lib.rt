@@ -1,11 +1,11 @@
-// One firm's month out of the book: refusals 1 to 8, 21 and 22, or its codes, exemptions and marks.
+// One firm's month out of the book: refusals 1 to 8, 21 and 22, or its verdicts, exemptions and marks.
 mod days;
 mod groups;
 mod marks;
 
 use book::check_book;
-use days::fill_codes;
 use days::fill_exempts;
+use days::fill_verdicts;
 use days::has_excess;
 use groups::exchange_groupings;
 use groups::group_starts;
@@ -25,12 +25,13 @@ ghost use Rattle.month.specs.Month.{anyExcess, monthAnswer, MonthIs};
 ghost use Rattle.month.specs.Parts.{ListedAt};
 
 // A refusal, or what the schedule holds; where the groups stand, and their exchange groupings; of each place (day by day, in each day group
-// by group) its code and its mark; of each group whether it is exempt. After a refusal the arrays hold zeros.
+// by group) its code, the factor of its tier and its mark; of each group whether it is exempt. After a refusal the arrays hold zeros.
 pub struct Month {
     pub answer: Checked,
     pub starts: [usize; GROUPS],
     pub groupings: [u8; GROUPS],
     pub codes: [u8; PLACES],
+    pub factors: [u8; PLACES],
     pub exempts: [bool; GROUPS],
     pub marks: [u8; PLACES],
 }
@@ -45,6 +46,7 @@ fn refused_month(number: u8, offset: usize, schedule: &[u8], book: &[u64], code:
         starts: [0; GROUPS],
         groupings: [0; GROUPS],
         codes: [0; PLACES],
+        factors: [0; PLACES],
         exempts: [false; GROUPS],
         marks: [0; PLACES],
     }
@@ -58,7 +60,9 @@ fn judged_month(schedule: &[u8], l: Layout, book: &[u64], code: &[u8], firm: u8)
 {
     let starts = group_starts(schedule, l);
     let groupings = exchange_groupings(schedule, l, &starts);
-    let codes = fill_codes(schedule, l, book, firm, &starts);
+    let verdicts = fill_verdicts(schedule, l, book, firm, &starts);
+    let codes = verdicts.codes;
+    let factors = verdicts.factors;
     let exempts = fill_exempts(schedule, l, book, firm, &starts);
     let marks = give_marks(rules_of(schedule), codes, &exempts, &groupings);
     Month {
@@ -66,6 +70,7 @@ fn judged_month(schedule: &[u8], l: Layout, book: &[u64], code: &[u8], firm: u8)
         starts,
         groupings,
         codes,
+        factors,
         exempts,
         marks,
     }

@@ -18,7 +18,7 @@ use Rattle.wire.proofs.Choose.{choose-most}
 use Rattle.wire.proofs.Cut.{cut-none}
 use Rattle.wire.proofs.Lists.{joined-most}
 use Rattle.wire.proofs.Sums.{count-blocks}
-use Rattle.rules.specs.Verdict.{version96, code, isViolation}
+use Rattle.rules.specs.Verdict.{version96, notJudged, verdict, isViolation}
 use Rattle.rules.specs.Month.{Cells}
 use Rattle.rules.specs.Marks.{places, dayOf, groupOf}
 use Rattle.schedule.specs.Outcome.{Outcome, refused, good, follow, given}
@@ -86,11 +86,11 @@ module _ (C : List ℕ) (three : length C ≡ 3) where
       rw n (simp length-append (omega (arith, totals-most C three (drop (bytes - bothTotals) R), totals-most C three (drop (bytes - totalsSize) R))))
 
 -- a firm has at most a violation a day in each group: a place past the last group has none
-violations-most : (S : List ℕ) (l : Layout) (c : Cells) → count places (λ i. isViolation (monthOf S l c .code i)) ≤ 31 * l .groups
-violations-most S l c = count-blocks (λ i. isViolation (monthOf S l c .code i)) (l .groups) (λ i. go i (ltb (groupOf i) (l .groups)) refl) 31
+violations-most : (S : List ℕ) (l : Layout) (c : Cells) → count places (λ i. isViolation (monthOf S l c .verdict i .code)) ≤ 31 * l .groups
+violations-most S l c = count-blocks (λ i. isViolation (monthOf S l c .verdict i .code)) (l .groups) (λ i. go i (ltb (groupOf i) (l .groups)) refl) 31
   where
     go : (i : ℕ) (b : Bool) → ltb (groupOf i) (l .groups) ≡ b
-        → isViolation (cond (b && terms S l .inEffect (dayOf i)) (code version96 (groupAt S l (groupOf i) .benchmark) 1 (c (groupOf i) (dayOf i))) 0) ≡ true
+        → isViolation (cond (b && terms S l .inEffect (dayOf i)) (verdict version96 (groupAt S l (groupOf i) .benchmark) 1 (c (groupOf i) (dayOf i))) notJudged .code) ≡ true
         → groupOf i < l .groups
     go i true e v = ltb-true _ _ e
     go i false e v = absurd (false≢true v)
@@ -139,7 +139,7 @@ module _ (S : List ℕ) {l : Layout} (e : checkOf S ≡ good l) where
       by true = le-trans (refused-most 23) (omega arith)
       by false =
           let j = firmMonth S B C l in
-          let v = count places (λ i. isViolation (j .code i)) in
+          let v = count places (λ i. isViolation (j .verdict i .code)) in
           omega (arith, violations-most S l (firmTotals S B C l), statement-most C refl (over (statementBytes S l j) out) v _ (bytes-length S l j))
 
       go : (x : Outcome Layout) → monthAnswer S B C ≡ x → length (firmLines C (given x out (outputUnder S B C out)) (follow x (statement.answerUnder S B C out))) ≤ firmMost l

@@ -49,7 +49,7 @@ own-code S l f =
 
 -- a month's statement needs no more than largest bytes
 need-most : (j : Judged) → need j ≤ largest
-need-most j = omega (arith, count-most places (λ i. isViolation (j .code i)))
+need-most j = omega (arith, count-most places (λ i. isViolation (j .verdict i .code)))
 
 -- an output that has room for every place is not refused by 23
 enough : (S B C out : List ℕ) (l : Layout) → monthAnswer S B C ≡ good l → largest ≤ length out → statementAnswer S B C out ≡ refused 23 0 → ⊥

@@ -9,7 +9,7 @@ use Rattle.wire.specs.Cut.{firstLength, cutIn}
 use Rattle.wire.specs.Lists.{joined}
 use Rattle.wire.specs.Sums.{sum}
 use Rattle.calendar.specs.Calendar.{daysIn}
-use Rattle.rules.specs.Verdict.{code}
+use Rattle.rules.specs.Verdict.{verdict}
 use Rattle.records.specs.Fields.{headFields, headOk, groupFields, groupInRange, isLetter, firmFields, firmOk, hasCode}
 use Rattle.contracts.specs.Listing.{contractsOk, contractBad, before, contract, listed}
 use Rattle.contracts.specs.Counted.{contractListed, contractCounted, inFront, isAfter, isCounted, contractIs}
@@ -83,7 +83,7 @@ pub example : Example
 unfolding posted postCause totalsOf checkBook checkOf scan ending withRecord cause isRepeated fieldsOk isFull lengthOk isDue kindOf
     firmListed groupListed firmIs groupIs groupStart firmOk firmFields hasCode groupInRange groupFields contractsOk contractBad before contract
     listed headOk headFields isLetter contractIs isCounted isAfter inFront contractCounted contractListed daysIn sum joined seekIn all choose u32At
-    u16At code anyExcess monthAnswer lineAt tally shown firstLength cutIn bytesBefore recordsFrom decimal refusedAt heading refusedLine markWord
+    u16At verdict anyExcess monthAnswer lineAt tally shown firstLength cutIn bytesBefore recordsFrom decimal refusedAt heading refusedLine markWord
     counts violationLine totalsLine statementLines zeros postLines statementOf monthLines report
 example =
     record {

@@ -11,12 +11,13 @@ use Rattle.wire.specs.Sums.{bit}
 use Rattle.wire.proofs.Bools.{and-left, and-right, cond-where}
 use Rattle.wire.proofs.Implies.{_⇒_, not-⇒, and-⇒, leb-⇒}
 use Rattle.wire.proofs.Sums.{sum-le}
-use Rattle.rules.specs.Verdict.{Falling, isViolation, isSevere}
+use Rattle.rules.specs.Verdict.{notJudged, Falling, isViolation, isSevere}
 use Rattle.rules.specs.Month.{Terms, Cells, counted, overCounted, days, sums, exempt}
 use Rattle.rules.specs.Marks.{dayOf, groupOf, judged, amount}
 use Rattle.rules.specs.Lighter.{Lighter, LighterMonth}
 use Rattle.rules.specs.declared.Rules.{Rules}
 use Rattle.rules.specs.declared.Totals.{Totals}
+use Rattle.rules.specs.declared.Verdict.{Verdict}
 use Rattle.rules.proofs.Codes.{Eased, exempt-code, violation-falls, severe-falls}
 use Rattle.rules.proofs.Marks.{Kind, none, ordinary, severe, kind}
 use Rattle.rules.proofs.Bills.{Milder, amount-falls}
@@ -49,10 +50,10 @@ module _ (s : Terms) (c′ c : Cells) (h : LighterMonth s c′ c) (g : ℕ) (hg 
         lots = rises (λ t. t .lots) (λ k q. h .lighter g k hg q .lots);
       }
 
--- a place is no worse, where it is listed and in effect: its code n′ against n, its group exempt (x′ against x)
-record Place (n′ : ℕ) (x′ : Bool) (n : ℕ) (x : Bool) : Type 0 where
-  violation : isViolation n′ ⇒ isViolation n
-  severe : isSevere n′ ⇒ isSevere n
+-- a place is no worse, where it is listed and in effect: its verdict v′ against v, its group exempt (x′ against x)
+record Place (v′ : Verdict) (x′ : Bool) (v : Verdict) (x : Bool) : Type 0 where
+  violation : isViolation (v′ .code) ⇒ isViolation (v .code)
+  severe : isSevere (v′ .code) ⇒ isSevere (v .code)
   stays : x ⇒ x′
 
 -- a place is severe or left where it is a violation, and severe or not exempt
@@ -63,17 +64,17 @@ either ordinary true = refl
 either ordinary false = refl
 
 -- of the grouping or not (g), listed and in effect or not (q)
-placed : (g q : Bool) (n′ : ℕ) (x′ : Bool) (n : ℕ) (x : Bool) → (q ≡ true → Place n′ x′ n x)
+placed : (g q : Bool) (v′ : Verdict) (x′ : Bool) (v : Verdict) (x : Bool) → (q ≡ true → Place v′ x′ v x)
     → Milder
-    (bit (g && isSevere (cond q n′ 0))) (bit (g && (eqb (cond q n′ 0) 4 && not x′)))
-    (bit (g && isSevere (cond q n 0))) (bit (g && (eqb (cond q n 0) 4 && not x)))
-placed false q n′ x′ n x h = omega arith
-placed true false n′ x′ n x h = omega arith
-placed true true n′ x′ n x h =
+    (bit (g && isSevere (cond q v′ notJudged .code))) (bit (g && (eqb (cond q v′ notJudged .code) 4 && not x′)))
+    (bit (g && isSevere (cond q v notJudged .code))) (bit (g && (eqb (cond q v notJudged .code) 4 && not x)))
+placed false q v′ x′ v x h = omega arith
+placed true false v′ x′ v x h = omega arith
+placed true true v′ x′ v x h =
     let p = h refl in
     record {
       severe = p .severe .le;
-      both = rw (either (kind n′) x′, either (kind n) x) (and-⇒ (p .violation) (not-⇒ (and-⇒ (not-⇒ (p .severe)) (p .stays))) .le);
+      both = rw (either (kind (v′ .code)) x′, either (kind (v .code)) x) (and-⇒ (p .violation) (not-⇒ (and-⇒ (not-⇒ (p .severe)) (p .stays))) .le);
     }
 
 module _ (P : Rules) (F : Falling P) (s : Terms) (c′ c : Cells) (h : LighterMonth s c′ c) where

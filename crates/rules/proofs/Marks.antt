@@ -46,28 +46,28 @@ given ordinary false false = record { none = refl; one = refl; bill = refl }
 
 -- a severe violation of the grouping e, and a waiver of it is free
 abbrev pub severeIn : Judged → (e i : ℕ) → Bool
-severeIn j e i = eqb (j .grouping i) e && isSevere (j .code i)
+severeIn j e i = eqb (j .grouping i) e && isSevere (j .verdict i .code)
 
 abbrev pub free : Rules → Judged → (e i : ℕ) → Bool
 free P j e i = ltb (count i (left j e)) (P .waivers)
 
 module _ (P : Rules) (j : Judged) (i : ℕ) where
-  marked-by : Given (eqb (j .code i) 4) (isSevere (j .code i)) (j .exempt i) (free P j (j .grouping i) i) (mark P j i)
-  marked-by = given (kind (j .code i)) (j .exempt i) _
+  marked-by : Given (eqb (j .verdict i .code) 4) (isSevere (j .verdict i .code)) (j .exempt i) (free P j (j .grouping i) i) (mark P j i)
+  marked-by = given (kind (j .verdict i .code)) (j .exempt i) _
 
-  pub mark-none : eqb (mark P j i) 0 ≡ not (isViolation (j .code i))
+  pub mark-none : eqb (mark P j i) 0 ≡ not (isViolation (j .verdict i .code))
   mark-none = marked-by .none
 
   module _ (e : ℕ) where
     -- one violation of the grouping e has one mark
     pub mark-one :
-        bit (eqb (j .grouping i) e && isViolation (j .code i))
+        bit (eqb (j .grouping i) e && isViolation (j .verdict i .code))
         ≡ bit (eqb (j .grouping i) e && eqb (mark P j i) 3)
         + bit (eqb (j .grouping i) e && eqb (mark P j i) 4)
         + bit (eqb (j .grouping i) e && isBilled (mark P j i))
     mark-one = go (eqb (j .grouping i) e)
       where
-        go : (g : Bool) → bit (g && isViolation (j .code i)) ≡ bit (g && eqb (mark P j i) 3) + bit (g && eqb (mark P j i) 4) + bit (g && isBilled (mark P j i))
+        go : (g : Bool) → bit (g && isViolation (j .verdict i .code)) ≡ bit (g && eqb (mark P j i) 3) + bit (g && eqb (mark P j i) 4) + bit (g && isBilled (mark P j i))
         go true = marked-by .one
         go false = refl
 
@@ -76,13 +76,13 @@ module _ (P : Rules) (j : Judged) (i : ℕ) where
     mark-bill = go (eqb (j .grouping i) e) refl
       where
         go : (g : Bool) → eqb (j .grouping i) e ≡ g
-            → bit (g && isBilled (mark P j i)) ≡ bit (g && isSevere (j .code i)) + (bit (g && (eqb (j .code i) 4 && not (j .exempt i))) - bit (free P j e i))
+            → bit (g && isBilled (mark P j i)) ≡ bit (g && isSevere (j .verdict i .code)) + (bit (g && (eqb (j .verdict i .code) 4 && not (j .exempt i))) - bit (free P j e i))
         go true q = rw (← eqb-true (j .grouping i) e q) (marked-by .bill)
         go false q = omega arith
 
 -- two judgements that say the same of a place
 pub record Same (j k : Judged) (i : ℕ) : Type 0 where
-  pub code : j .code i ≡ k .code i
+  pub code : j .verdict i .code ≡ k .verdict i .code
   pub exempt : j .exempt i ≡ k .exempt i
   pub grouping : j .grouping i ≡ k .grouping i
 

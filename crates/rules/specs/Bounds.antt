@@ -15,10 +15,17 @@ pub record Lawful (P : Rules) : Type 0 where
   pub factor3 : P .factor3 ≤ 10
   pub severe : P .severe ≤ 20
 
--- such a set, a benchmark of at most b, and the totals of at most 31 days, each within its limit
-pub record Bounded (P : Rules) (b B d : ℕ) (t : Totals) : Type 0 where
+-- such a set, a benchmark in range, and the totals of at most 31 days, each within its limit
+pub record Bounded (P : Rules) (B d : ℕ) (t : Totals) : Type 0 where
   pub lawful : Lawful P
-  pub benchmark : B ≤ b
+  pub benchmark : B ≤ 100000
   pub days : d ≤ 31
+  pub score : t .score ≤ limit * 31
+  pub lots : t .lots ≤ limit * 31
+
+-- a benchmark, or its severe multiple, a lawful factor, and such totals
+pub record Small (B m : ℕ) (t : Totals) : Type 0 where
+  pub benchmark : B ≤ 20 * 100000
+  pub factor : m ≤ 10
   pub score : t .score ≤ limit * 31
   pub lots : t .lots ≤ limit * 31

@@ -8,13 +8,13 @@ use lib.Dec.{ltb, eqb}
 use Rattle.wire.specs.Choose.{choose, within}
 use Rattle.wire.specs.Lists.{joined, table}
 use Rattle.wire.specs.Sums.{sum}
-use Rattle.rules.specs.Verdict.{version96, code}
+use Rattle.rules.specs.Verdict.{version96, verdict}
 use Rattle.rules.specs.Month.{Terms, Cells, exempt}
 use Rattle.rules.specs.Marks.{Judged, mark}
 
 -- six times B without m: a day of the lowest tier whose score is above six times B × lots, and not above six times B × 3 × lots, is ordinary
-pub ordinary-day : code version96 1000 1 (record { raw = 30000; score = 100000; lots = 1000 }) ≡ 4
-unfolding code choose
+pub ordinary-day : verdict version96 1000 1 (record { raw = 30000; score = 100000; lots = 1000 }) ≡ record { code = 4; factor = 3 }
+unfolding verdict choose
 ordinary-day = refl
 
 -- averaging over all days in effect, or adding lots of days without messages: days 1 and 2 are in effect; on day 2 there are lots and no messages
@@ -31,7 +31,7 @@ quiet-day = refl
 
 -- waivers before the monthly exemption, or exempting a severe day: a severe and an ordinary violation of an exempt group, three more ordinary ones, and one of the other grouping
 abbrev six : Judged
-six = record { code = λ i. cond (eqb i 0) 5 4; exempt = λ i. ltb i 2; grouping = λ i. cond (ltb i 5) 1 2 }
+six = record { verdict = λ i. record { code = cond (eqb i 0) 5 4; factor = 1 }; exempt = λ i. ltb i 2; grouping = λ i. cond (ltb i 5) 1 2 }
 
 pub six-marks : table 6 (mark version96 six) ≡ 1 ∷ 3 ∷ 4 ∷ 4 ∷ 2 ∷ 4 ∷ []
 unfolding joined sum choose

@@ -23,7 +23,7 @@ use Rattle.month.specs.Month.{startsOf, groupingsOf, firmMonth, monthAnswer}
 use Rattle.statement.specs.Layout.{lineSize, bothTotals}
 use Rattle.statement.specs.Statement.{statementBytes, need, statementAnswer, StatementIs}
 use Rattle.month.specs.Parts.{heldGrouping}
-use Rattle.statement.specs.Parts.{heldMark, heldGroup, heldShown}
+use Rattle.statement.specs.Parts.{heldMark, heldFactor, heldGroup, heldShown}
 use Rattle.statement.specs.declared.Stated.the-variants as stated
 use Rattle.statement.proofs.Shown.{marks-count, bytes-length, shown-same}
 
@@ -63,11 +63,15 @@ module _ (S B C out : List ℕ) where
       go (refused number offset) q = absurd (refused-good (rw q at e))
       go (good l) q = under l (ltb (length out) (need (firmMonth S B C l))) refl (rw q at e)
 
--- arrays that hold a month's marks, and where the schedule's groups stand and their groupings
-module _ (S : List ℕ) (l : Layout) (j : Judged) (grouped : (i : ℕ) → j .grouping i ≡ groupAt S l (groupOf i) .grouping) (starts groupings marks : List ℕ)
-    (o : starts ≡ startsOf S l) (q : groupings ≡ groupingsOf S l) (p : marks ≡ table places (mark (rulesOf S) j)) where
+-- arrays that hold a month's marks and factors, and where the schedule's groups stand and their groupings
+module _ (S : List ℕ) (l : Layout) (j : Judged) (grouped : (i : ℕ) → j .grouping i ≡ groupAt S l (groupOf i) .grouping) (starts groupings marks factors : List ℕ)
+    (o : starts ≡ startsOf S l) (q : groupings ≡ groupingsOf S l) (p : marks ≡ table places (mark (rulesOf S) j))
+    (r : factors ≡ table places (λ i. j .verdict i .factor)) where
   held-mark : (i : ℕ) → i < places → heldMark marks i ≡ mark (rulesOf S) j i
   held-mark i h = rw p (table-at (mark (rulesOf S) j) places i 0 h)
+
+  held-factor : (i : ℕ) → i < places → heldFactor factors i ≡ j .verdict i .factor
+  held-factor i h = rw r (table-at (λ i. j .verdict i .factor) places i 0 h)
 
   held-grouping : (i : ℕ) → i < places → heldGrouping groupings i ≡ j .grouping i
   held-grouping i h = rw (q, grouped) (table-at (λ g. groupAt S l g .grouping) 32 (groupOf i) 0 (omega arith))
@@ -80,5 +84,5 @@ module _ (S : List ℕ) (l : Layout) (j : Judged) (grouped : (i : ℕ) → j .gr
       ap (λ (n : ℕ). lineSize * n + bothTotals)
       (sum-same places _ _ (λ i h. ap (λ (k : ℕ). bit (not (eqb k 0))) (held-mark i h)) ∙ marks-count (rulesOf S) j)
 
-  pub held-shown : heldShown (rulesOf S) S starts groupings marks ≡ statementBytes S l j
-  held-shown = shown-same (rulesOf S) _ _ _ _ _ _ held-group held-grouping held-mark
+  pub held-shown : heldShown (rulesOf S) S starts groupings marks factors ≡ statementBytes S l j
+  held-shown = shown-same (rulesOf S) _ _ _ _ _ _ _ _ held-group held-grouping held-mark held-factor
