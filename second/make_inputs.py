@@ -9,7 +9,7 @@ import sys
 from make_cases import Script, activity, firm, group, head
 from make_months import (CELLS, codes, day_totals, dense_month, full_cell, odd_record, put_in, quiet_month, random_group,
                          shape, trade, whole_month)
-from mep_second import LIMIT, le
+from mep_second import LIMIT, le, output_need
 
 ROOM = 65_536           # bytes that mep-statement takes
 SCRIPT_ROOM = 262_144   # bytes of a script that cases takes
@@ -273,7 +273,7 @@ def month_calls(r):
         spoil(r, script, month, size)
     script.digest()
     for code in r.sample(month.firms, min(3, len(month.firms))):
-        for room in (12 * r.randrange(40) + r.randrange(48), 36 + 12 * r.randrange(30) - r.randint(0, 1), 12 * 992 + 36):
+        for room in (output_need(r.randrange(40)) + r.randint(-12, 12), output_need(r.randrange(30)) - r.randint(0, 1), output_need(992)):
             script.statement(r.choice((code,) * 9 + (code[:2], code + b"A", b"", b"abc")), room)
     for _ in range(20):
         script.verdict(*verdict_numbers(r))

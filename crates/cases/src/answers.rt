@@ -3,14 +3,11 @@ use book::Opened;
 use book::Posted;
 use libc::STDOUT_FILENO;
 use script::put_hex;
-use text::Line;
-use text::Place;
-use text::put_line;
+use statement::LARGEST;
+use statement::Stated;
 ghost use Prim.Native.Nat.{_≤_};
 ghost use lib.ListN.{length};
-
-// The largest output that a script may ask for, in bytes.
-pub(crate) const OUTPUT: usize = 16_384;
+ghost use Rattle.statement.specs.Layout.{largest};
 
 // Writes a text.
 pub(crate) fn say(text: &[u8]) {
@@ -23,12 +20,15 @@ fn say_number(text: &[u8], n: u64) {
     io::print_decimal(STDOUT_FILENO, n);
 }
 
-// The line that a report has for a refused schedule or book serves every refusal here.
-pub(crate) fn print_refused(number: u8, offset: usize) {
-    let mut line = [0u8; 64];
-    let front = Place { at: 0, whole: true };
-    let end = put_line(&mut line, front, Line::RefusedAt { number, offset });
-    say(&line[..end.at]);
+// Writes a refusal's number and offset.
+fn say_refused(number: u8, offset: usize) {
+    say_number(b"refused ", number as u64);
+    say_number(b" at ", offset as u64);
+}
+
+fn print_refused(number: u8, offset: usize) {
+    say_refused(number, offset);
+    say(b"\n");
 }
 
 pub(crate) fn print_opened(answer: Opened) {
@@ -46,13 +46,16 @@ pub(crate) fn print_posted(answer: Posted) {
     }
 }
 
-// How many bytes a statement has, and the whole output in hexadecimal digits.
-pub(crate) fn print_written(n: usize, out: &[u8])
-    requires { ⌜ length (now out) ≤ 16384 ⌝ }
+// What a statement answered, and the whole output in hexadecimal digits: after a refusal too, so that a change of it can be seen.
+pub(crate) fn print_stated(answer: Stated, out: &[u8])
+    requires { ⌜ length (now out) ≤ largest ⌝ }
 {
-    let mut text = [0u8; 2 * OUTPUT];
+    let mut text = [0u8; 2 * LARGEST];
     let digits = put_hex(out, &mut text);
-    say_number(b"written ", n as u64);
+    match answer {
+        Stated::Refused { number, offset } => say_refused(number, offset),
+        Stated::Written(n) => say_number(b"written ", n as u64),
+    }
     say(b" ");
     say(&text[..digits]);
     say(b"\n");

@@ -1,11 +1,9 @@
 // The commands of a script. Each starts past its own byte, and answers the state after it.
-use crate::answers::OUTPUT;
 use crate::answers::print_code;
 use crate::answers::print_digest;
 use crate::answers::print_opened;
 use crate::answers::print_posted;
-use crate::answers::print_refused;
-use crate::answers::print_written;
+use crate::answers::print_stated;
 use crate::answers::say;
 use crate::state::State;
 use book::open;
@@ -16,7 +14,7 @@ use script::digest_of;
 use script::past;
 use script::piece_at;
 use script::u64_at;
-use statement::Stated;
+use statement::LARGEST;
 use statement::statement;
 use wire::fill;
 use wire::least;
@@ -25,6 +23,7 @@ ghost use mathlib.Core.Path.{_≡_};
 ghost use Prim.Native.Nat.{_≤_};
 ghost use lib.ListN.{length};
 ghost use Rattle.io.specs.Counts.{Counts};
+ghost use Rattle.statement.specs.Layout.{largest};
 
 // Says why a command cannot be run. No other one follows it.
 pub(crate) fn stop(mut state: State, text: &[u8]) -> State
@@ -107,29 +106,27 @@ pub(crate) fn run_post(script: &[u8], mut state: State, book: &mut [u64]) -> Sta
 }
 
 // An output before its call, each byte 165, so that what a call leaves alone can be seen.
-fn fresh_output() -> [u8; OUTPUT]
-    ensures { λ r. ⌜ 16384 ≡ length r ⌝ }
+fn fresh_output() -> [u8; LARGEST]
+    ensures { λ r. ⌜ largest ≡ length r ⌝ }
 {
-    [165; OUTPUT]
+    [165; LARGEST]
 }
 
-// Writes the statement of a firm into an output, and prints it or why it is refused.
+// Writes the statement of a firm into an output, and prints its answer and the output.
 fn print_statement(schedule: &[u8], book: &[u64], firm: &[u8], out: &mut [u8])
-    requires { ⌜ length (now out) ≤ 16384 ⌝ }
+    requires { ⌜ length (now out) ≤ largest ⌝ }
 {
-    match statement(schedule, book, firm, out) {
-        Stated::Refused { number, offset } => print_refused(number, offset),
-        Stated::Written(n) => print_written(n, out),
-    }
+    let answer = statement(schedule, book, firm, out);
+    print_stated(answer, out);
 }
 
-// T: the statement of a firm, into an output of so many bytes.
+// T: the statement of a firm, into an output of so many bytes: no more than the largest statement has.
 pub(crate) fn run_statement(script: &[u8], mut state: State, book: &[u64]) -> State
     ensures { λ r. ⌜ state .at ≤ r .at ⌝ }
 {
     let piece = piece_at(script, state.at);
     let size = u32_at(script, piece.end) as usize;
-    if OUTPUT < size {
+    if LARGEST < size {
         return stop(state, b"output too large\n");
     }
     let n = held(book, state.numbers);
