@@ -1,4 +1,4 @@
-//! The linked verdict against document 01: its marked days, its edges, and a computation of its own.
+//! The linked verdict against the papers (document 01, and 2.1 of document 02): the marked days, the edges, and a computation of its own.
 
 use panel::{verdict, Verdict};
 use std::collections::HashMap;
@@ -7,9 +7,15 @@ const LIMIT: u64 = 10_000_000_000;
 const PASS_1: Verdict = Verdict::Pass { factor: 1 };
 const PASS_2: Verdict = Verdict::Pass { factor: 2 };
 const PASS_3: Verdict = Verdict::Pass { factor: 3 };
+const ORDINARY_1: Verdict = Verdict::Ordinary { factor: 1 };
+const ORDINARY_2: Verdict = Verdict::Ordinary { factor: 2 };
+const ORDINARY_3: Verdict = Verdict::Ordinary { factor: 3 };
+const SEVERE_1: Verdict = Verdict::Severe { factor: 1 };
+const SEVERE_2: Verdict = Verdict::Severe { factor: 2 };
+const SEVERE_3: Verdict = Verdict::Severe { factor: 3 };
 
-/// "The day's verdict" and number 24 of document 01, in numbers too wide to overflow.
-fn by_document_01(raw: u64, score: u64, lots: u64, benchmark: u64) -> Verdict {
+/// "The day's verdict" and number 24 of document 01 with the factor of 2.1, in numbers too wide to overflow.
+fn by_the_papers(raw: u64, score: u64, lots: u64, benchmark: u64) -> Verdict {
     let too_large = [raw, score, lots].iter().any(|&total| total > LIMIT);
     if too_large || !(1..=100_000).contains(&benchmark) {
         return Verdict::Refused;
@@ -25,9 +31,9 @@ fn by_document_01(raw: u64, score: u64, lots: u64, benchmark: u64) -> Verdict {
     if hundredfold <= bound {
         Verdict::Pass { factor }
     } else if hundredfold <= 6 * bound {
-        Verdict::Ordinary
+        Verdict::Ordinary { factor }
     } else {
-        Verdict::Severe
+        Verdict::Severe { factor }
     }
 }
 
@@ -38,13 +44,13 @@ fn eleven_marked_days() {
         (45_000, 50_000, 5_000, PASS_2),
         (21_000, 21_000, 2_000, PASS_3),
         (10_000, 2_800, 100, Verdict::NotJudged),
-        (122_000, 143_000, 10_000, Verdict::Ordinary),
+        (122_000, 143_000, 10_000, ORDINARY_1),
         (20_000, 60_000, 0, Verdict::NotJudged),
-        (20_001, 3, 0, Verdict::Severe),
-        (60_001, 60_000, 1_000, Verdict::Ordinary),
-        (60_001, 60_001, 1_000, Verdict::Severe),
+        (20_001, 3, 0, SEVERE_3),
+        (60_001, 60_000, 1_000, ORDINARY_1),
+        (60_001, 60_001, 1_000, SEVERE_1),
         (40_000, 30_000, 1_000, PASS_3),
-        (40_001, 30_000, 1_000, Verdict::Ordinary),
+        (40_001, 30_000, 1_000, ORDINARY_2),
     ];
     for (raw, score, lots, expected) in days {
         assert_eq!(
@@ -89,36 +95,36 @@ fn edges_of_the_score() {
         );
         assert_eq!(
             verdict(raw, bound + 1, 1_234, 700),
-            Verdict::Ordinary,
+            Verdict::Ordinary { factor },
             "{raw}"
         );
         assert_eq!(
             verdict(raw, 6 * bound, 1_234, 700),
-            Verdict::Ordinary,
+            Verdict::Ordinary { factor },
             "{raw}"
         );
         assert_eq!(
             verdict(raw, 6 * bound + 1, 1_234, 700),
-            Verdict::Severe,
+            Verdict::Severe { factor },
             "{raw}"
         );
     }
     // No lots: only a score of 0 passes.
     assert_eq!(verdict(20_001, 0, 0, 1_000), PASS_3);
-    assert_eq!(verdict(20_001, 1, 0, 1_000), Verdict::Severe);
+    assert_eq!(verdict(20_001, 1, 0, 1_000), SEVERE_3);
     // A bound of 19.98 is not cut to 19: 19 is below it, 20 above; 119.88 likewise.
     assert_eq!(verdict(60_001, 19, 2, 999), PASS_1);
-    assert_eq!(verdict(60_001, 20, 2, 999), Verdict::Ordinary);
-    assert_eq!(verdict(60_001, 119, 2, 999), Verdict::Ordinary);
-    assert_eq!(verdict(60_001, 120, 2, 999), Verdict::Severe);
+    assert_eq!(verdict(60_001, 20, 2, 999), ORDINARY_1);
+    assert_eq!(verdict(60_001, 119, 2, 999), ORDINARY_1);
+    assert_eq!(verdict(60_001, 120, 2, 999), SEVERE_1);
 }
 
 #[test]
 fn limits_of_the_totals() {
     assert_eq!(verdict(LIMIT, LIMIT, LIMIT, 100), PASS_1);
-    assert_eq!(verdict(LIMIT, LIMIT, LIMIT, 99), Verdict::Ordinary);
+    assert_eq!(verdict(LIMIT, LIMIT, LIMIT, 99), ORDINARY_1);
     assert_eq!(verdict(LIMIT, LIMIT, LIMIT, 100_000), PASS_1);
-    assert_eq!(verdict(LIMIT, LIMIT, 0, 100_000), Verdict::Severe);
+    assert_eq!(verdict(LIMIT, LIMIT, 0, 100_000), SEVERE_1);
     for large in [LIMIT + 1, u64::MAX] {
         assert_eq!(verdict(large, 0, 0, 1_000), Verdict::Refused);
         // Number 24 comes before the tier of at most 20,000 messages.
@@ -132,7 +138,7 @@ fn limits_of_the_totals() {
 fn limits_of_the_benchmark() {
     for (benchmark, quiet, busy) in [
         (0, Verdict::Refused, Verdict::Refused),
-        (1, Verdict::NotJudged, Verdict::Severe),
+        (1, Verdict::NotJudged, SEVERE_1),
         (100_000, Verdict::NotJudged, PASS_1),
         (100_001, Verdict::Refused, Verdict::Refused),
         (u64::MAX, Verdict::Refused, Verdict::Refused),
@@ -156,7 +162,7 @@ fn limits_of_the_benchmark() {
 
 #[test]
 fn every_number_has_a_verdict() {
-    let known = [0, 1, 2, 3, 4, 5, 24];
+    let known = [0, 11, 22, 33, 41, 42, 43, 51, 52, 53, 24];
     for number in (0..1_000).chain([u64::MAX]) {
         let unknown = Verdict::from(number) == Verdict::Unknown(number);
         assert_eq!(unknown, !known.contains(&number), "{number}");
@@ -235,7 +241,7 @@ fn random_days() {
         let given = verdict(raw, score, lots, benchmark);
         assert_eq!(
             given,
-            by_document_01(raw, score, lots, benchmark),
+            by_the_papers(raw, score, lots, benchmark),
             "{raw} {score} {lots} {benchmark}"
         );
         *seen.entry(given).or_default() += 1;
@@ -246,8 +252,12 @@ fn random_days() {
         PASS_1,
         PASS_2,
         PASS_3,
-        Verdict::Ordinary,
-        Verdict::Severe,
+        ORDINARY_1,
+        ORDINARY_2,
+        ORDINARY_3,
+        SEVERE_1,
+        SEVERE_2,
+        SEVERE_3,
         Verdict::Refused,
     ] {
         assert!(seen.contains_key(&expected), "no random day was {expected}");
