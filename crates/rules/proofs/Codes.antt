@@ -3,7 +3,7 @@
 use Prim.Native.Nat.{ℕ, _*_, _≤_, suc-le-suc}
 use mathlib.Core.Bool.{Bool, true, false, cond, not, _&&_, _||_}
 use mathlib.Core.List.{[], _∷_}
-use mathlib.Core.Path.{_≡_, refl}
+use mathlib.Core.Path.{_≡_, refl, sym}
 use native.Mathlib.Nat.{le-refl, le-trans, mul-le-mul, mul-le-mul-left}
 use native.Mathlib.Omega.{arith}
 use lib.Dec.{leb, ltb, lit≤}
@@ -51,19 +51,19 @@ module _ (P : Rules) (B d : ℕ) (t : Totals) where
   pub by-factor : {m : ℕ} → m ≡ tierFactor P d (t .raw) → ltb (B * m * t .lots) (100 * t .score) ≡ exceeds P B d t
   by-factor e = rw e
 
-  -- a raw count above the first edge has its tier's factor, and the code by the two comparisons
-  module _ (e : leb (t .raw) (P .edge1 * d) ≡ false) where
-    pub is-pass : exceeds P B d t ≡ false → verdict P B d t ≡ record { code = byTier P d (t .raw) 3 2 1; factor = tierFactor P d (t .raw) }
+  -- a raw count above the first edge has its tier's factor m, and the code by the two comparisons
+  module _ (e : leb (t .raw) (P .edge1 * d) ≡ false) {m : ℕ} (f : m ≡ tierFactor P d (t .raw)) where
+    pub is-pass : exceeds P B d t ≡ false → _≡_ {A = Verdict} (record { code = byTier P d (t .raw) 3 2 1; factor = m }) (verdict P B d t)
     unfolding verdict
-    is-pass f = chosen (next e (next (rw f) (next f done)))
+    is-pass x = rw f (sym (chosen (next e (next (rw x) (next x done)))))
 
-    pub is-severe : exceeds P B d t ≡ true → exceeds P (P .severe * B) d t ≡ true → verdict P B d t ≡ record { code = 5; factor = tierFactor P d (t .raw) }
+    pub is-severe : exceeds P B d t ≡ true → exceeds P (P .severe * B) d t ≡ true → _≡_ {A = Verdict} (record { code = 5; factor = m }) (verdict P B d t)
     unfolding verdict
-    is-severe f g = chosen (next e (here (rw (f, g))))
+    is-severe x y = rw f (sym (chosen (next e (here (rw (x, y))))))
 
-    pub is-ordinary : exceeds P B d t ≡ true → exceeds P (P .severe * B) d t ≡ false → verdict P B d t ≡ record { code = 4; factor = tierFactor P d (t .raw) }
+    pub is-ordinary : exceeds P B d t ≡ true → exceeds P (P .severe * B) d t ≡ false → _≡_ {A = Verdict} (record { code = 4; factor = m }) (verdict P B d t)
     unfolding verdict
-    is-ordinary f g = chosen (next e (next (rw (f, g)) (here f)))
+    is-ordinary x y = rw f (sym (chosen (next e (next (rw (x, y)) (here x)))))
 
   pub fails : isViolation (verdict P B d t .code) ≡ ltb (P .edge1 * d) (t .raw) && exceeds P B d t
   fails = rw (ltb-leb (t .raw) (P .edge1 * d)) (code-by .violation)
