@@ -273,7 +273,7 @@ def month_calls(r):
         spoil(r, script, month, size)
     script.digest()
     for code in r.sample(month.firms, min(3, len(month.firms))):
-        for room in (output_need(r.randrange(40)) + r.randint(-12, 12), output_need(r.randrange(30)) - r.randint(0, 1), output_need(992)):
+        for room in (r.randrange(output_need(40)), output_need(r.randrange(30)) - r.randint(0, 1), output_need(992)):
             script.statement(r.choice((code,) * 9 + (code[:2], code + b"A", b"", b"abc")), room)
     for _ in range(20):
         script.verdict(*verdict_numbers(r))

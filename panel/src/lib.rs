@@ -27,7 +27,7 @@ pub enum Verdict {
 }
 
 impl From<u64> for Verdict {
-    /// The meaning of `mep_verdict`'s number, which is ten times the code and the tier's factor, or 24.
+    /// The meaning of `mep_verdict`'s number, which is ten times the code, plus the tier's factor, or 24.
     fn from(number: u64) -> Verdict {
         let factor = (number % 10) as u8;
         match number {

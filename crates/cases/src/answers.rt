@@ -61,8 +61,9 @@ pub(crate) fn print_stated(answer: Stated, out: &[u8])
     say(b"\n");
 }
 
-pub(crate) fn print_code(code: u64) {
-    say_number(b"code ", code);
+// The panel's number of a verdict.
+pub(crate) fn print_verdict(number: u64) {
+    say_number(b"code ", number);
     say(b"\n");
 }
 

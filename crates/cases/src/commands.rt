@@ -1,9 +1,9 @@
 // The commands of a script. Each starts past its own byte, and answers the state after it.
-use crate::answers::print_code;
 use crate::answers::print_digest;
 use crate::answers::print_opened;
 use crate::answers::print_posted;
 use crate::answers::print_stated;
+use crate::answers::print_verdict;
 use crate::answers::say;
 use crate::state::State;
 use book::open;
@@ -152,7 +152,7 @@ fn verdict_at(script: &[u8], at: usize) -> u64 {
 pub(crate) fn run_verdict(script: &[u8], mut state: State) -> State
     ensures { λ r. ⌜ state .at ≤ r .at ⌝ }
 {
-    print_code(verdict_at(script, state.at));
+    print_verdict(verdict_at(script, state.at));
     state.at = past(script, state.at, 32);
     state
 }

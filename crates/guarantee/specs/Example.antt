@@ -1,5 +1,6 @@
--- Computed examples: the statement of document 01's whole run, byte by byte, and one that has all four marks and both exchange groupings; a month in
--- which traffic falls and the amount with it; and one that shows why demand 3 asks that no raw count above zero becomes zero.
+-- Computed examples: the statement of document 01's whole run, byte by byte (its lines are those of document 02, 2.1), and one that has all four marks,
+-- all three tiers and both exchange groupings; a month in which traffic falls and the amount with it; and one that shows why demand 3 asks that no
+-- raw count above zero becomes zero.
 -- Assumes nothing.
 use Prim.Native.Nat.{ℕ, _+_, _*_}
 use mathlib.Core.Bool.{Bool, _&&_, _||_}
@@ -77,7 +78,7 @@ manyMarks =
     fifth 69 83 1 10000 ∷ fifth 69 83 2 10000 ∷ fifth 69 83 3 10000 ∷ fifth 69 83 4 10000 ∷ seventh 69 83 5
     ∷ eleventh 67 76 1 ∷ fifth 90 67 1 10000 ∷ orders 90 67 6 1 0 0 1000000 ∷ []
 
--- by day, then by the group's place: the waivers of CL are its own, and ZC is exempt; each line has its own day's factor; grouping 1: 5 1 2 2 2000; grouping 2: 1 0 1 0 0
+-- by day, then by the group's place: the waivers of CL are its own, ZC is exempt, and each line has its own day's factor; grouping 1: 5 1 2 2 2000; grouping 2: 1 0 1 0 0
 abbrev manyBytes : List ℕ
 manyBytes =
     (13 ∷ 0 ∷ 18 ∷ 0 ∷ 1 ∷ 69 ∷ 83 ∷ 4 ∷ 0 ∷ 0 ∷ 0 ∷ 0 ∷ 1 ∷ [])

@@ -1,4 +1,5 @@
--- A firm's month out of the book (document 01, "The month" and "Numbers of refusal"). S is the schedule, l what it holds, B the book, C the firm's code.
+-- A firm's month out of the book (document 01, "The month" and "Numbers of refusal", and document 02, 2.1). S is the schedule, l what it holds, B the
+-- book, C the firm's code.
 -- Assumes nothing.
 use Prim.Native.Nat.{ℕ}
 use mathlib.Core.Bool.{Bool, false, cond, not, _&&_}
@@ -80,6 +81,7 @@ pub record MonthIs (S B C : List ℕ) (r : Month) : Type 0 where
   pub starts : r .starts ≡ given (monthAnswer S B C) (replicate mostGroups 0) (startsOf S)
   pub groupings : r .groupings ≡ given (monthAnswer S B C) (replicate mostGroups 0) (groupingsOf S)
   pub codes : r .codes ≡ given (monthAnswer S B C) (replicate places 0) (λ l. table places (λ i. firmMonth S B C l .verdict i .code))
+  -- 2.1: what uses a verdict passes the factor on
   pub factors : r .factors ≡ given (monthAnswer S B C) (replicate places 0) (λ l. table places (λ i. firmMonth S B C l .verdict i .factor))
   pub exempts : r .exempts ≡ given (monthAnswer S B C) (replicate mostGroups false) (λ l. exemptsOf S l (firmTotals S B C l))
   pub marks : r .marks ≡ given (monthAnswer S B C) (replicate places 0) (λ l. table places (mark (rulesOf S) (firmMonth S B C l)))

@@ -10,7 +10,7 @@ ghost use Rattle.rules.specs.Marks.{mostGroups};
 ghost use Rattle.lookup.specs.Lookup.{groupAt};
 ghost use Rattle.month.specs.Month.{startsOf, groupingsOf};
 
-// Where the groups stand in the schedule. Past the last group the places mean nothing, and no code goes by them.
+// Where the groups stand in the schedule. Past the last group the places mean nothing, and no verdict goes by them.
 pub(crate) fn group_starts(schedule: &[u8], l: Layout) -> [usize; GROUPS]
     ensures { λ r. ⌜ r ≡ startsOf (now (schedule .entry)) l ⌝ }
 {

@@ -1,9 +1,9 @@
--- What holds of every report (document 01, "Eleven marked days, a month and one whole run"). Proved in proofs/Laws.antt.
+-- What holds of every report (document 01, "Eleven marked days, a month and one whole run", and document 02, 2.1). Proved in proofs/Laws.antt.
 -- Assumes nothing.
 use Prim.Native.Nat.{ℕ, _+_, _*_, _≤_, _<_}
 use mathlib.Core.List.{List, _++_}
 use mathlib.Core.Path.{_≡_}
-use lib.ListN.{length, take, drop}
+use lib.ListN.{length, take, drop, set}
 use Rattle.wire.specs.Lists.{joined}
 use Rattle.rules.specs.Marks.{Judged, violations, marked, billed, amount}
 use Rattle.schedule.specs.Outcome.{good}
@@ -12,7 +12,7 @@ use Rattle.lookup.specs.InForce.{rulesOf}
 use Rattle.lookup.specs.declared.Layout.{Layout}
 use Rattle.accepted.specs.Accepted.{posted}
 use Rattle.book.specs.Book.{checkBook, openBook}
-use Rattle.statement.specs.Layout.{lineSize, bothTotals, largest}
+use Rattle.statement.specs.Layout.{lineSize, factorAt, bothTotals, largest}
 use Rattle.statement.specs.Statement.{statementAnswer, statementOutput}
 use Rattle.guarantee.specs.Demand3.{monthAfter, afterLines}
 use Rattle.text.specs.Text.{text, field}
@@ -56,6 +56,8 @@ module _ (S : List ℕ) (l : Layout) (rs : List (List ℕ)) (f : ℕ) where
         ≡ joined (violations j 1 + violations j 2) (λ i. violationLine C (drop (lineSize * i) R)) ++ monthTotals (rulesOf S) C 1 j ++ monthTotals (rulesOf S) C 2 j
 
 pub record Laws : Type 0 where
+  -- 2.1: printed lines don't show the factor; a line L with any factor n is printed as it is
+  pub factor-unseen : (C L : List ℕ) (n : ℕ) → violationLine C (set L factorAt n) ≡ violationLine C L
   -- no report is longer than the program's output
   pub fits : (I : List ℕ) → length (report I) ≤ outputSize
   -- so in an output of that size it is whole

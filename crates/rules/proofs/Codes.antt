@@ -43,9 +43,9 @@ by-tests false false c false true m = record { violation = refl; severe = refl; 
 by-tests false false c false false m = record { violation = refl; severe = refl; factor = refl }
 
 module _ (P : Rules) (B d : ℕ) (t : Totals) where
-  code-by : ByTests (leb (t .raw) (P .edge1 * d)) (exceeds P B d t) (exceeds P (P .severe * B) d t) (tierFactor P d (t .raw)) (verdict P B d t)
+  judged-by : ByTests (leb (t .raw) (P .edge1 * d)) (exceeds P B d t) (exceeds P (P .severe * B) d t) (tierFactor P d (t .raw)) (verdict P B d t)
   unfolding verdict
-  code-by = by-tests _ _ _ _ _ _
+  judged-by = by-tests _ _ _ _ _ _
 
   -- the test of a score, by the factor that it takes
   pub by-factor : {m : ℕ} → m ≡ tierFactor P d (t .raw) → ltb (B * m * t .lots) (100 * t .score) ≡ exceeds P B d t
@@ -66,17 +66,17 @@ module _ (P : Rules) (B d : ℕ) (t : Totals) where
     is-ordinary x y = rw f (sym (chosen (next e (next (rw (x, y)) (here x)))))
 
   pub fails : isViolation (verdict P B d t .code) ≡ ltb (P .edge1 * d) (t .raw) && exceeds P B d t
-  fails = rw (ltb-leb (t .raw) (P .edge1 * d)) (code-by .violation)
+  fails = rw (ltb-leb (t .raw) (P .edge1 * d)) (judged-by .violation)
 
   pub severe : isSevere (verdict P B d t .code) ≡ ltb (P .edge1 * d) (t .raw) && (exceeds P B d t && exceeds P (P .severe * B) d t)
-  severe = rw (ltb-leb (t .raw) (P .edge1 * d)) (code-by .severe)
+  severe = rw (ltb-leb (t .raw) (P .edge1 * d)) (judged-by .severe)
 
   pub factor : verdict P B d t .factor ≡ cond (ltb (P .edge1 * d) (t .raw)) (tierFactor P d (t .raw)) 0
-  factor = rw (ltb-leb (t .raw) (P .edge1 * d)) (code-by .factor)
+  factor = rw (ltb-leb (t .raw) (P .edge1 * d)) (judged-by .factor)
 
   -- an exempt month is one whose sums would not fail
   pub exempt-code : isExempt P B d t ≡ not (isViolation (verdict P B d t .code))
-  exempt-code = rw (code-by .violation) (go (leb (t .raw) (P .edge1 * d)) (exceeds P B d t))
+  exempt-code = rw (judged-by .violation) (go (leb (t .raw) (P .edge1 * d)) (exceeds P B d t))
     where
       go : (a b : Bool) → (a || not b) ≡ not (not a && b)
       go true b = refl
@@ -166,10 +166,10 @@ module _ (P : Rules) (F : Falling P) {d′ : ℕ} {t′ : Totals} {d : ℕ} {t :
 
   pub violation-falls : (B : ℕ) → isViolation (verdict P B d′ t′ .code) ⇒ isViolation (verdict P B d t .code)
   violation-falls B =
-      rw (code-by P B d′ t′ .violation, code-by P B d t .violation)
+      rw (judged-by P B d′ t′ .violation, judged-by P B d t .violation)
       (and-⇒ (not-⇒ (h .edges (P .edge1))) (exceeds-falls B))
 
   pub severe-falls : (B : ℕ) → isSevere (verdict P B d′ t′ .code) ⇒ isSevere (verdict P B d t .code)
   severe-falls B =
-      rw (code-by P B d′ t′ .severe, code-by P B d t .severe)
+      rw (judged-by P B d′ t′ .severe, judged-by P B d t .severe)
       (and-⇒ (not-⇒ (h .edges (P .edge1))) (and-⇒ (exceeds-falls B) (exceeds-falls (P .severe * B))))

@@ -1,8 +1,10 @@
--- The laws of the rules, each from the file that proves it; version 9.6's factors, which fall; and what the panel's number tells, of the two tables.
+-- The laws of the rules, each from the file that proves it; version 9.6's factors, which fall; and what the panel's number tells, refused or not.
 use Prim.Native.Nat.{ℕ}
 use mathlib.Core.Bool.{Bool, true, false, cond}
 use mathlib.Core.Path.{_≡_, refl, sym, ap}
 use native.Mathlib.Omega.{arith}
+use lib.Dec.{eqb}
+use borrow.Author.Tests.{ne-eqb}
 use Rattle.wire.specs.Choose.{choose}
 use Rattle.wire.proofs.Implies.{follows}
 use Rattle.rules.specs.Verdict.{Falling, version96, verdict, isRefused, decided, refusal, daysVerdict, numberOf, panelNumber}
@@ -30,13 +32,13 @@ laws P F =
 pub falling96 : Falling version96
 falling96 = omega arith
 
-only-refused : (t : Totals) (B : ℕ) → panelNumber t B ≡ 24 → isRefused 1 t B ≡ true
+only-refused : (t : Totals) (B : ℕ) → eqb (panelNumber t B) 24 ≡ isRefused 1 t B
 unfolding panelNumber
 only-refused t B = go (isRefused 1 t B)
   where
-    go : (b : Bool) → cond b 24 (numberOf (verdict version96 B 1 t)) ≡ 24 → b ≡ true
-    go true e = refl
-    go false e = absurd (never-24 B 1 t e)
+    go : (b : Bool) → eqb (cond b 24 (numberOf (verdict version96 B 1 t))) 24 ≡ b
+    go true = refl
+    go false = ne-eqb _ _ (never-24 B 1 t)
 
 one-day : (t : Totals) (B : ℕ) → daysVerdict 1 t B ≡ cond (isRefused 1 t B) (refusal (panelNumber t B)) (decided (readBack (panelNumber t B)))
 unfolding daysVerdict panelNumber choose

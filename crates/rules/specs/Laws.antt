@@ -4,7 +4,7 @@
 use Prim.Native.Nat.{ℕ, _+_, _*_, _/_, _%_, _≤_, _<_}
 use mathlib.Core.Bool.{true, cond, _&&_}
 use mathlib.Core.Path.{_≡_}
-use lib.Dec.{ltb}
+use lib.Dec.{ltb, eqb}
 use Rattle.rules.specs.Verdict.{version96, tierFactor, exceeds, verdict, isViolation, isSevere, isRefused, decided, refusal, daysVerdict, numberOf, panelNumber}
 use Rattle.rules.specs.Month.{Terms, Cells, exempt}
 use Rattle.rules.specs.Marks.{Judged, judged, violations, marked, billed, amount}
@@ -23,7 +23,7 @@ pub record Laws (P : Rules) : Type 0 where
   pub fails : (B d : ℕ) (t : Totals) → isViolation (verdict P B d t .code) ≡ ltb (P .edge1 * d) (t .raw) && exceeds P B d t
   -- and is severe when the score also exceeds the severe multiple of that
   pub severe : (B d : ℕ) (t : Totals) → isSevere (verdict P B d t .code) ≡ ltb (P .edge1 * d) (t .raw) && (exceeds P B d t && exceeds P (P .severe * B) d t)
-  -- 2.1: m is the tier's factor, whatever the code, and 0 where raw is no more than the first edge
+  -- 2.1: above the first edge m is the tier's factor, pass or fail; else it is 0
   pub factor : (B d : ℕ) (t : Totals) → verdict P B d t .factor ≡ cond (ltb (P .edge1 * d) (t .raw)) (tierFactor P d (t .raw)) 0
   -- lighter traffic is no worse a code
   pub lighter-code : (B d : ℕ) (t′ t : Totals) → Lighter t′ t → NoWorse (verdict P B d t′ .code) (verdict P B d t .code)
@@ -46,6 +46,6 @@ pub record Panel : Type 0 where
   -- and code and factor can be read back from its number
   pub pair : (B d : ℕ) (t : Totals) → readBack (numberOf (verdict version96 B d t)) ≡ verdict version96 B d t
   -- so the panel's number is 24 where the day is refused, and nowhere else
-  pub refused : (t : Totals) (B : ℕ) → panelNumber t B ≡ 24 → isRefused 1 t B ≡ true
-  -- and it is that of the verdict on one day: one day is never too many
+  pub refused : (t : Totals) (B : ℕ) → eqb (panelNumber t B) 24 ≡ isRefused 1 t B
+  -- one day is never too many: the verdict on one day is read back from the panel's number
   pub one-day : (t : Totals) (B : ℕ) → daysVerdict 1 t B ≡ cond (isRefused 1 t B) (refusal (panelNumber t B)) (decided (readBack (panelNumber t B)))

@@ -1,4 +1,5 @@
--- The eleven marked days and the month (document 01, "Eleven marked days, a month and one whole run"), each against B = 1,000.
+-- The eleven marked days and the month (document 01, "Eleven marked days, a month and one whole run"), each against B = 1,000; with each day's factor
+-- and the panel's number (document 02, 2.1).
 -- Assumes nothing.
 use Prim.Native.Nat.{ℕ, _+_, _*_}
 use mathlib.Core.Bool.{Bool, true}
@@ -8,6 +9,7 @@ use lib.Dec.{eqb}
 use Rattle.wire.specs.Choose.{choose, all}
 use Rattle.rules.specs.Verdict.{version96, verdict, panelNumber}
 use Rattle.rules.specs.Month.{isExempt}
+use Rattle.rules.specs.declared.Totals.{Totals}
 
 -- a day and the code and factor that are right for it, or an exempt month: d, R, S and V
 pub data Case : Type 0 where
@@ -15,7 +17,10 @@ pub data Case : Type 0 where
   month : (d raw score lots : ℕ) → Case
 
 abbrev pub right : Case → Bool
-right (day raw score lots n m) = eqb (panelNumber (record { raw = raw; score = score; lots = lots }) 1000) (10 * n + m)
+right (day raw score lots n m) =
+    let t : Totals = record { raw = raw; score = score; lots = lots } in
+    let v = verdict version96 1000 1 t in
+    all (eqb (v .code) n ∷ eqb (v .factor) m ∷ eqb (panelNumber t 1000) (10 * n + m) ∷ [])
 right (month d raw score lots) = isExempt version96 1000 d (record { raw = raw; score = score; lots = lots })
 
 abbrev pub cases : List Case

@@ -28,7 +28,7 @@ version96 =
       dollars = 1000;
     }
 
--- 2.1: the verdict where nothing is judged, raw 20,000 or fewer: code 0, m 0
+-- 2.1: the verdict where nothing is judged, as where raw is 20,000 or fewer: code 0, m 0
 abbrev pub notJudged : Verdict
 notJudged = record { code = 0; factor = 0 }
 

@@ -45,7 +45,7 @@ counts T =
     field (totalsViolations T) ++ field (totalsMonthly T) ++ field (totalsAutomatic T) ++ field (totalsBilled T) ++ field (totalsDollars T)
 
 module _ (C : List ℕ) where
-  -- a violation: firm, day, group, mark, dollars
+  -- a violation: firm, day, group, mark, dollars; 2.1: printed lines don't show the factor
   unfoldable pub violationLine : (L : List ℕ) → List ℕ
   violationLine L =
       C ++ field (lineDay L) ++ text " " ++ (lineFirst L ∷ lineSecond L ∷ []) ++ text " " ++ markWord (lineMark L) ++ field (lineDollars L) ++ text "\n"

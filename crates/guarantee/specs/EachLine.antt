@@ -1,5 +1,5 @@
 -- Beside demand 3, of the same runs: what each line of a statement shows of its place, byte by byte (document 01, "The book and its calls",
--- statement, and document 02, 2.1). Proved in proofs/Lines.antt: of every schedule and every firm that it lists.
+-- statement, and document 02, 2.1). Proved in proofs/EachLine.antt: of every schedule and every firm that it lists.
 -- Assumes nothing.
 use Prim.Native.Nat.{ℕ, _*_, _<_}
 use mathlib.Core.Bool.{Bool, true}
@@ -39,7 +39,7 @@ module _ (S C : List ℕ) (p : Run S C) where
   abbrev pub isViolationAt : (i : ℕ) → Bool
   isViolationAt i = isViolation (monthAfter S C (p .posts) .verdict i .code)
 
-  -- Statement: each line into the output after the last, so that of place i is behind those of the violations before it
+  -- Statement: each line into the output after the last; the line of place i stands behind those of the violations before it
   abbrev pub lineShown : (i : ℕ) → List ℕ
   lineShown i = drop (lineSize * count i isViolationAt) (outputOf S C p)
 

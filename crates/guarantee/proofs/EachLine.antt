@@ -27,7 +27,7 @@ use Rattle.statement.specs.Lines.{lineBytes, lineAt, lines, tally, totalsBytes,
 use Rattle.statement.specs.Statement.{statementBytes}
 use Rattle.statement.proofs.Shown.{line-some, lines-length, mark-some}
 use Rattle.guarantee.specs.Demand3.{layout, isListed, totalsAfter, monthAfter, Run}
-use Rattle.guarantee.specs.Lines.{LineIs, lineShown, cellVerdict, EachLine}
+use Rattle.guarantee.specs.EachLine.{LineIs, lineShown, cellVerdict, EachLine}
 use Rattle.guarantee.proofs.Demand3.{run}
 
 -- the line of place i of a month j
