@@ -6,6 +6,7 @@ use calendar::in_effect;
 use lookup::Layout;
 use rules::DaysVerdict;
 use rules::GROUPS;
+use rules::NOT_JUDGED;
 use rules::PLACES;
 use rules::Totals;
 use rules::Verdict;
@@ -111,8 +112,8 @@ fn verdict_of(answer: DaysVerdict) -> Verdict
 {
     match answer {
         DaysVerdict::Decided(v) => v,
-        DaysVerdict::Refused => Verdict { code: 0, factor: 0 },
-        DaysVerdict::TooManyDays => Verdict { code: 0, factor: 0 },
+        DaysVerdict::Refused => NOT_JUDGED,
+        DaysVerdict::TooManyDays => NOT_JUDGED,
     }
 }
 
@@ -181,7 +182,7 @@ fn place_verdict(
     let g = i % GROUPS;
     let day = (i / GROUPS + 1) as u8;
     if !((g < (l.groups as usize)) & in_effect(l.month, l.closed, day)) {
-        return Verdict { code: 0, factor: 0 };
+        return NOT_JUDGED;
     }
     let benchmark = group_of(schedule, l, starts, g).benchmark as u64;
     let t = totals_in(book, l.groups, firm, g as u8, day);
