@@ -1,5 +1,6 @@
--- Demand 3 of the customer's letter, in the words of document 01 ("Demand 3 is a single claim about whole lists of posts"). S is the schedule,
--- any bytes; C a firm's code; rs a list of posts, any byte strings. Proved in proofs/Demand3.antt: of every schedule and every firm that it lists.
+-- Demand 3 of the customer's letter, in the words of document 01 ("Demand 3 is a single claim about whole lists of posts") and of the calls and
+-- bytes as document 02, 2.1, has them. S is the schedule, any bytes; C a firm's code; rs a list of posts, any byte strings. Proved in
+-- proofs/Demand3.antt: of every schedule and every firm that it lists.
 -- Assumes nothing.
 use Prim.Native.Nat.{ℕ, _+_, _*_, _≤_}
 use mathlib.Core.Bool.{Bool}
@@ -106,7 +107,7 @@ pub record DollarsFall (S C : List ℕ) (p q : Run S C) : Type 0 where
   pub first : totalsDollars (firstTotals S C q) ≤ totalsDollars (firstTotals S C p)
   pub second : totalsDollars (secondTotals S C q) ≤ totalsDollars (secondTotals S C p)
 
--- Statement bytes are the bytes written, and their number; outputs may differ beyond them
+-- Statement bytes are the bytes written, and their number; outputs may differ beyond them. 2.1: the bytes compared are the new ones
 pub record SameBytes (S C : List ℕ) (p q : Run S C) : Type 0 where
   pub written : ℕ
   pub first : answerOf S C p ≡ good written

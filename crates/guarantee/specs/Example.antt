@@ -78,7 +78,8 @@ manyMarks =
     fifth 69 83 1 10000 ∷ fifth 69 83 2 10000 ∷ fifth 69 83 3 10000 ∷ fifth 69 83 4 10000 ∷ seventh 69 83 5
     ∷ eleventh 67 76 1 ∷ fifth 90 67 1 10000 ∷ orders 90 67 6 1 0 0 1000000 ∷ []
 
--- by day, then by the group's place: the waivers of CL are its own, ZC is exempt, and each line has its own day's factor; grouping 1: 5 1 2 2 2000; grouping 2: 1 0 1 0 0
+-- by day, then by the group's place: the waivers of CL are its own, ZC is exempt, and each line has its own day's factor; grouping 1:
+-- 5 1 2 2 2000; grouping 2: 1 0 1 0 0
 abbrev manyBytes : List ℕ
 manyBytes =
     (13 ∷ 0 ∷ 18 ∷ 0 ∷ 1 ∷ 69 ∷ 83 ∷ 4 ∷ 0 ∷ 0 ∷ 0 ∷ 0 ∷ 1 ∷ [])

@@ -56,7 +56,7 @@ module _ (S : List ℕ) (l : Layout) (rs : List (List ℕ)) (f : ℕ) where
         ≡ joined (violations j 1 + violations j 2) (λ i. violationLine C (drop (lineSize * i) R)) ++ monthTotals (rulesOf S) C 1 j ++ monthTotals (rulesOf S) C 2 j
 
 pub record Laws : Type 0 where
-  -- 2.1: printed lines don't show the factor; a line L with any factor n is printed as it is
+  -- 2.1: printed lines don't show the factor: a line is printed the same, whatever its factor byte is
   pub factor-unseen : (C L : List ℕ) (n : ℕ) → violationLine C (set L factorAt n) ≡ violationLine C L
   -- no report is longer than the program's output
   pub fits : (I : List ℕ) → length (report I) ≤ outputSize

@@ -7,7 +7,7 @@ use lib.ListN.{replicate, set}
 use borrow.Author.Needs.{needs}
 use Rattle.wire.specs.Lists.{table, over}
 use Rattle.wire.proofs.Lists.{joined-none, table-write, table-done}
-use Rattle.rules.specs.Marks.{verdictAt}
+use Rattle.rules.specs.Marks.{places, verdictAt}
 use Rattle.rules.specs.Verdict.{version96}
 use Rattle.rules.specs.declared.Verdict.{Verdict}
 use Rattle.book.specs.Book.{totalsIn}
@@ -18,15 +18,15 @@ use Rattle.month.proofs.days.fill_verdicts.Tie as tie
 abbrev Inv-loop : tie.InvT-loop
 Inv-loop schedule l book firm starts codes₀ factors₀ i₀ codes factors i =
     let v = verdictAt version96 (terms schedule l) (totalsIn (l .groups) book firm) in
-    (i ≤ 992) × (codes ≡ over (table i (λ k. v k .code)) codes₀) × (factors ≡ over (table i (λ k. v k .factor)) factors₀)
+    (i ≤ places) × (codes ≡ over (table i (λ k. v k .code)) codes₀) × (factors ≡ over (table i (λ k. v k .factor)) factors₀)
 
 abbrev μ-loop : tie.MeasureT-loop
-μ-loop schedule l book firm starts codes₀ factors₀ i₀ codes factors i = 992 - i
+μ-loop schedule l book firm starts codes₀ factors₀ i₀ codes factors i = places - i
 
 -- one array with the next place written: f reads its number from a verdict
-written : (f : Verdict → ℕ) (v : ℕ → Verdict) (i : ℕ) (r : Verdict) {xs : List ℕ} → i < 992 → r ≡ v i
-    → xs ≡ over (table i (λ k. f (v k))) (replicate 992 0) → set xs i (f r) ≡ over (table (i + 1) (λ k. f (v k))) (replicate 992 0)
-written f v i r h e q = rw q (table-write (λ k. f (v k)) i (f r) (replicate 992 0) h (ap f e))
+written : (f : Verdict → ℕ) (v : ℕ → Verdict) (i : ℕ) (r : Verdict) {xs : List ℕ} → i < places → r ≡ v i
+    → xs ≡ over (table i (λ k. f (v k))) (replicate places 0) → set xs i (f r) ≡ over (table (i + 1) (λ k. f (v k))) (replicate places 0)
+written f v i r h e q = rw q (table-write (λ k. f (v k)) i (f r) (replicate places 0) h (ap f e))
 
 loop-again : tie.Need-loop-again Inv-loop μ-loop
 loop-again c =
@@ -43,10 +43,10 @@ returns c =
     let l = c .before in
     let a = l .before .before .before .args in
     let v = verdictAt version96 (terms (a .schedule .now) (a .l)) (totalsIn (a .l .groups) (a .book .now) (a .firm)) in
-    let e : l .loop .i ≡ 992 = omega arith in
+    let e : l .loop .i ≡ places = omega arith in
     record {
-      codes = rw e at (l .loop .inv .1) ∙ table-done (λ k. v k .code) 992 (replicate 992 0) refl;
-      factors = rw e at (l .loop .inv .2) ∙ table-done (λ k. v k .factor) 992 (replicate 992 0) refl;
+      codes = rw e at (l .loop .inv .1) ∙ table-done (λ k. v k .code) places (replicate places 0) refl;
+      factors = rw e at (l .loop .inv .2) ∙ table-done (λ k. v k .factor) places (replicate places 0) refl;
     }
 
 pub fill-verdicts-spec : {M : Type 1} → statement M
