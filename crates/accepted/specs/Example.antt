@@ -1,5 +1,6 @@
 -- A computed example of posts: a schedule as in document 01's whole run (October 2019, ES, firm ABC), but with day 2 not in effect, and
--- records whose counts are all different, so that a count read in the place of another would show.
+-- records whose counts are all different, so that a count read in the place of another, or another factor, would show; then minimum-quantity
+-- orders that are FAK orders too, and some that only just fit (document 02, 2.2).
 -- Assumes nothing.
 use Prim.Native.Nat.{ℕ, _+_}
 use mathlib.Core.List.{List, [], _∷_, _++_}
@@ -25,13 +26,22 @@ use Rattle.accepted.specs.Samples.{head, group, firm, activity}
 abbrev schedule : List ℕ
 schedule = head 2 ++ group 69 83 1 ++ firm
 
--- a record of ABC in ES: of each count the next power of ten, lots last
+-- a record of ABC in ES: from modifications to minimum-quantity orders of each count the next power of ten, then of new orders and of lots
 abbrev counts : (day contract : ℕ) → List ℕ
-counts day contract = activity 69 83 day contract 1 10 100 1000 10000 100000 1000000 10000000
+counts day contract = activity 69 83 day contract 1000000 1 10 100 1000 10000 100000 10000000
 
--- day 1 twice, day 2 between, then day 32, an unlisted contract, and a record of two bytes
+-- one with new orders, modifications, FAK/FOK orders and minimum-quantity orders alone
+abbrev orders : (day new modified fakFok minimum : ℕ) → List ℕ
+orders day new modified fakFok minimum = activity 69 83 day 24239 new modified 0 fakFok 0 0 minimum 0
+
+-- day 1 twice, day 2 between, then day 32, an unlisted contract, and a record of two bytes; on day 3 a FAK order with a minimum quantity; on day 4
+-- a score one below the limit, one minimum-quantity order more, and a modification
 abbrev posts : List (List ℕ)
-posts = counts 1 24239 ∷ counts 2 24239 ∷ counts 1 24239 ∷ counts 32 24239 ∷ counts 1 24240 ∷ (44 ∷ 0 ∷ []) ∷ []
+posts =
+    counts 1 24239 ∷ counts 2 24239 ∷ counts 1 24239 ∷ counts 32 24239 ∷ counts 1 24240 ∷ (44 ∷ 0 ∷ [])
+    ∷ orders 3 0 0 1 1
+    ∷ orders 4 3333333333 0 0 3333333333 ∷ orders 4 1 0 0 1 ∷ orders 4 0 1 0 0
+    ∷ []
 
 -- the answers to a list, each post taking the book as the one before left it
 abbrev answers : (B : List ℕ) → (rs : List (List ℕ)) → List (Outcome Effect)
@@ -43,15 +53,24 @@ abbrev book : List ℕ
 book = openBook schedule (table (perFirmGroup + 1) (λ i. 7))
 
 pub record Example : Type 0 where
-  pub answered : answers book posts ≡ good counted ∷ good outside ∷ good counted ∷ refused 16 0 ∷ refused 17 0 ∷ refused 11 0 ∷ []
-  -- raw 1 + 10 + 100 + 1,000 and score 10 + 3 × (100 + 1,000 + 10,000 + 100,000), each twice
-  pub accepts : accepted schedule posts 0 0 1 ≡ record { raw = 2222; score = 666620; lots = 20000000 }
+  pub answered : answers book posts
+      ≡ good counted ∷ good outside ∷ good counted ∷ refused 16 0 ∷ refused 17 0 ∷ refused 11 0
+      ∷ good counted
+      ∷ good counted ∷ refused 18 0 ∷ good counted
+      ∷ []
+  -- raw 1,000,000 + 1 + 10 + 100 and score 1 + 3 × (10 + 100 + 1,000 + 10,000 + 100,000), each twice
+  pub accepts : accepted schedule posts 0 0 1 ≡ record { raw = 2000222; score = 666662; lots = 20000000 }
   pub passes : accepted schedule posts 0 0 2 ≡ none
-  pub holds : posted schedule book posts ≡ over (2222 ∷ 666620 ∷ 20000000 ∷ []) book
+  -- the order is one message, and scores 3 as a FAK order and 3 for its minimum quantity
+  pub both : accepted schedule posts 0 0 3 ≡ record { raw = 1; score = 6; lots = 0 }
+  -- 18 is asked of the score with its minimum-quantity orders
+  pub limited : accepted schedule posts 0 0 4 ≡ record { raw = 3333333334; score = 10000000000; lots = 0 }
+  pub holds : posted schedule book posts
+      ≡ over (2000222 ∷ 666662 ∷ 20000000 ∷ 0 ∷ 0 ∷ 0 ∷ 1 ∷ 6 ∷ 0 ∷ 3333333334 ∷ 10000000000 ∷ 0 ∷ []) book
 
 pub example : Example
 unfolding acceptedCells posted postCause totalsOf checkBook checkOf scan ending withRecord cause isRepeated fieldsOk isFull lengthOk isDue kindOf
     firmListed groupListed firmIs groupIs groupStart firmOk firmFields hasCode groupInRange groupFields contractsOk contractBad before contract
     listed headOk headFields isLetter contractIs isCounted isAfter inFront contractCounted contractListed daysIn sum joined seekIn all choose u32At
     u16At
-example = record { answered = refl; accepts = refl; passes = refl; holds = refl }
+example = record { answered = refl; accepts = refl; passes = refl; both = refl; limited = refl; holds = refl }

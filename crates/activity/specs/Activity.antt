@@ -1,7 +1,8 @@
--- An activity record's fields, and what it adds to its cell (document 01, "Records", kind 4, and "The day's verdict"). R is the whole record.
+-- An activity record's fields, and what it adds to its cell (document 01, "Records", kind 4, and "The day's verdict"; document 02, 2.2). R is the
+-- whole record.
 -- Assumes nothing.
 use Prim.Native.Nat.{ℕ, _+_, _*_}
-use mathlib.Core.List.{List}
+use mathlib.Core.List.{List, [], _∷_}
 use lib.ListN.{getD, take, drop}
 use Rattle.wire.specs.Bytes.{u16At, u32At}
 use Rattle.rules.specs.declared.Totals.{Totals}
@@ -57,7 +58,7 @@ massRequests R = u32At R 28
 abbrev pub massReports : (R : List ℕ) → ℕ
 massReports R = u32At R 32
 
--- Records, kind 4: minimum-quantity orders, at 36, which no definition counts under document 01
+-- Records, kind 4: minimum-quantity orders, at 36
 abbrev pub minimumQuantity : (R : List ℕ) → ℕ
 minimumQuantity R = u32At R 36
 
@@ -65,14 +66,30 @@ minimumQuantity R = u32At R 36
 abbrev pub lots : (R : List ℕ) → ℕ
 lots R = u32At R 40
 
--- The day's verdict: new orders + modifications + cancellations + FAK/FOK orders; mass actions are not in it
+-- The day's verdict: new orders + modifications + cancellations + FAK/FOK orders; neither mass actions nor minimum-quantity orders are in it
 abbrev pub rawCount : (R : List ℕ) → ℕ
 rawCount R = newOrders R + modifications R + cancellations R + fakFok R
 
--- The day's verdict: modifications + 3 × (cancellations + FAK/FOK orders + mass action requests + mass action reports); minimum-quantity
--- orders score nothing
+-- The Program, section 2, the factor table: each kind of message, by the record's count of it, with its pre-defined factor
+abbrev pub factorTable : List ((List ℕ → ℕ) × ℕ)
+factorTable =
+    (newOrders, 0)  -- New Order
+    ∷ (modifications, 1)  -- Order Modification
+    ∷ (cancellations, 3)  -- Order Cancellation
+    ∷ (massRequests, 3)  -- Order Mass Action Request
+    ∷ (massReports, 3)  -- Order Mass Action Report
+    ∷ (fakFok, 3)  -- TimeInForce
+    ∷ (minimumQuantity, 3)  -- MinQty
+    ∷ []
+
+-- section 2: the count of each kind is multiplied by its factor, and the products are totaled
+abbrev pub weighted : List ((List ℕ → ℕ) × ℕ) → (R : List ℕ) → ℕ
+weighted [] R = 0
+weighted (kind ∷ kinds) R = kind .0 R * kind .1 + weighted kinds R
+
+-- Document 02, 2.2: the score follows the factor table
 abbrev pub score : (R : List ℕ) → ℕ
-score R = modifications R + 3 * (cancellations R + fakFok R + massRequests R + massReports R)
+score R = weighted factorTable R
 
 -- what the record adds to its cell
 unfoldable pub totalsOf : (R : List ℕ) → Totals

@@ -30,6 +30,8 @@ const MASS_REQUESTS: usize = 28;
 
 const MASS_REPORTS: usize = 32;
 
+const MINIMUM_QUANTITY: usize = 36;
+
 const LOTS: usize = 40;
 
 // What a record adds to its cell.
@@ -42,9 +44,11 @@ pub fn totals_of(record: &[u8]) -> Totals
     let fak_fok = u32_at(record, FAK_FOK) as u64;
     let mass_requests = u32_at(record, MASS_REQUESTS) as u64;
     let mass_reports = u32_at(record, MASS_REPORTS) as u64;
+    let minimum_quantity = u32_at(record, MINIMUM_QUANTITY) as u64;
     Totals {
         raw: new_orders + modifications + cancellations + fak_fok,
-        score: modifications + 3 * (cancellations + fak_fok + mass_requests + mass_reports),
+        score: modifications
+            + 3 * (cancellations + fak_fok + mass_requests + mass_reports + minimum_quantity),
         lots: u32_at(record, LOTS) as u64,
     }
 }

@@ -1,0 +1,15 @@
+-- The products of the factor table are totaled: that of new orders falls away, and the factors of 3 are gathered.
+use Prim.Native.Nat.{ℕ}
+use mathlib.Core.List.{List}
+use mathlib.Core.Path.{_≡_}
+use native.Mathlib.Omega.{arith}
+use Rattle.activity.specs.Activity.{lots, rawCount, score, totalsOf}
+use Rattle.activity.specs.Laws.{ScoreGains}
+
+pub score-gains : (R : List ℕ) → ScoreGains R
+score-gains R = omega arith
+
+-- what a record adds, its raw count and score summed in any order
+pub totals-with : (R : List ℕ) (raw score′ : ℕ) → raw ≡ rawCount R → score′ ≡ score R → record { raw = raw; score = score′; lots = lots R } ≡ totalsOf R
+unfolding totalsOf
+totals-with R raw score′ p q = λ i. record { raw = p i; score = q i; lots = lots R }
