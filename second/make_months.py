@@ -141,13 +141,13 @@ def messages(r, raw, score, lots):
     """Eight counts with these totals, or a message or two more where there are none (one message cannot score 2)."""
     least = max(0, -(-(score - 3 * raw) // 3))
     least += score - 3 * least == 3 * raw - 1  # no messages score one less than three each
-    mass = min(score // 3, r.choice((least, least + r.randrange(50))))
-    rest = score - 3 * mass
+    beside = min(score // 3, r.choice((least, least + r.randrange(1_000))))  # of what scores 3 and is not in the raw count
+    rest = score - 3 * beside
     ended = r.randint(min(max(0, -(-(rest - raw) // 2)), rest // 3), rest // 3)
     modified = rest - 3 * ended
-    cancelled, requests = r.randint(0, ended), r.randint(0, mass)
-    return [max(0, raw - ended - modified), modified, cancelled, ended - cancelled, requests, mass - requests,
-            r.choice((0, r.randrange(1_000))), lots]
+    cancelled, minimum = r.randint(0, ended), r.choice((0, r.randint(0, beside), beside))
+    requests = r.randint(0, beside - minimum)
+    return [max(0, raw - ended - modified), modified, cancelled, ended - cancelled, requests, beside - minimum - requests, minimum, lots]
 
 
 def split(r, counts):
