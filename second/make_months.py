@@ -141,13 +141,14 @@ def messages(r, raw, score, lots):
     """Eight counts with these totals, or a message or two more where there are none (one message cannot score 2)."""
     least = max(0, -(-(score - 3 * raw) // 3))
     least += score - 3 * least == 3 * raw - 1  # no messages score one less than three each
-    beside = min(score // 3, r.choice((least, least + r.randrange(1_000))))  # of what scores 3 and is not in the raw count
-    rest = score - 3 * beside
+    scored_only = min(score // 3, r.choice((least, least + r.randrange(1_000))))  # mass actions and minimum quantities: in no raw count
+    rest = score - 3 * scored_only
     ended = r.randint(min(max(0, -(-(rest - raw) // 2)), rest // 3), rest // 3)
     modified = rest - 3 * ended
-    cancelled, minimum = r.randint(0, ended), r.choice((0, r.randint(0, beside), beside))
-    requests = r.randint(0, beside - minimum)
-    return [max(0, raw - ended - modified), modified, cancelled, ended - cancelled, requests, beside - minimum - requests, minimum, lots]
+    cancelled, minimum = r.randint(0, ended), r.choice((0, r.randint(0, scored_only), scored_only))
+    requests = r.randint(0, scored_only - minimum)
+    return [max(0, raw - ended - modified), modified, cancelled, ended - cancelled, requests,
+            scored_only - minimum - requests, minimum, lots]
 
 
 def split(r, counts):
@@ -196,8 +197,8 @@ def odd_record(r, month):
 
 def full_cell(r, month):
     """Records that fill one total of a cell to the limit or one below it, and then more."""
-    g, place = r.choice(month.groups), r.choice((0, 1, 4, 7))
-    full = [LIMIT // 3] if place == 4 else [TOP, TOP, LIMIT - 2 * TOP - r.randint(0, 1)]
+    g, place = r.choice(month.groups), r.choice((0, 1, 4, 6, 7))
+    full = [LIMIT // 3] if place in (4, 6) else [TOP, TOP, LIMIT - 2 * TOP - r.randint(0, 1)]
     rows = [[n if j == place else 0 for j in range(8)] for n in full]
     rows += [[0] * 8, [0, 1] + [0] * 6, [0] * 7 + [1], [0, 1] + [0] * 5 + [1], [r.randrange(TOP) for _ in range(8)]]
     code, day = r.choice(month.firms), r.choice(month.open_days())

@@ -32,13 +32,13 @@ ACTIVITY = (
     (b"ABC", 1, b"ES", 24_239, (60_000, 110_000, 9_000, 1_000, 0, 0, 250, 40_000)),
     (b"ABC", 2, b"ES", 24_239, (58_000, 105_000, 8_500, 1_200, 0, 0, 310, 38_500)),
     (b"ABC", 8, b"ES", 24_239, (70_000, 130_000, 20_000, 2_000, 40, 40, 0, 9_800)),
-    # In NQ two failed days are waived, the 9th failing by its minimum-quantity orders alone; the 10th is above six times the
-    # bound; and the 16th, which fails by the sum of two contracts alone, is billed.
+    # In NQ two failed days are waived, of which the 9th would pass without its minimum-quantity orders; the 10th is above six
+    # times the bound; and the 16th, which fails by the sum of two contracts and by neither alone, is billed.
     (b"ABC", 2, b"NQ", 24_239, (15_000, 20_000, 9_000, 1_000, 0, 0, 0, 1_600)),
     (b"ABC", 9, b"NQ", 24_239, (12_000, 18_000, 7_500, 500, 0, 0, 120, 1_120)),
     (b"ABC", 10, b"NQ", 24_239, (10_000, 1_000, 10_000, 500, 0, 0, 0, 100)),
     (b"ABC", 16, b"NQ", 24_239, (8_000, 14_000, 7_500, 500, 0, 0, 0, 1_100)),
-    (b"ABC", 16, b"NQ", 24_242, (9_000, 16_000, 6_500, 500, 0, 0, 0, 400)),
+    (b"ABC", 16, b"NQ", 24_242, (9_000, 16_000, 6_500, 500, 0, 0, 0, 1_000)),
     # CL belongs to the other grouping, with waivers of its own. August 2020 is listed and not counted: its lots, which would
     # have saved the month, lie outside.
     (b"ABC", 15, b"CL", 24_239, (20_000, 30_000, 18_000, 2_000, 0, 0, 0, 9_000)),

@@ -1,6 +1,6 @@
 -- A computed example of posts: a schedule as in document 01's whole run (October 2019, ES, firm ABC), but with day 2 not in effect, and
--- records whose counts are all different, so that a count read in the place of another, or another factor, would show; then minimum-quantity
--- orders that are FAK orders too, and some that only just fit (document 02, 2.2).
+-- records whose counts are all different, so that a count read in the place of another, or another factor, would show; then (document 02, 2.2) a
+-- FAK order with a minimum quantity, and a score that minimum-quantity orders bring to the limit.
 -- Assumes nothing.
 use Prim.Native.Nat.{ℕ, _+_}
 use mathlib.Core.List.{List, [], _∷_, _++_}
@@ -26,7 +26,8 @@ use Rattle.accepted.specs.Samples.{head, group, firm, activity}
 abbrev schedule : List ℕ
 schedule = head 2 ++ group 69 83 1 ++ firm
 
--- a record of ABC in ES: from modifications to minimum-quantity orders of each count the next power of ten, then of new orders and of lots
+-- a record of ABC in ES: 1 modification, and of each next count ten times as many: cancellations, FAK/FOK orders, mass action requests and reports,
+-- minimum-quantity orders, new orders, lots
 abbrev counts : (day contract : ℕ) → List ℕ
 counts day contract = activity 69 83 day contract 1000000 1 10 100 1000 10000 100000 10000000
 
@@ -61,7 +62,7 @@ pub record Example : Type 0 where
   -- raw 1,000,000 + 1 + 10 + 100 and score 1 + 3 × (10 + 100 + 1,000 + 10,000 + 100,000), each twice
   pub accepts : accepted schedule posts 0 0 1 ≡ record { raw = 2000222; score = 666662; lots = 20000000 }
   pub passes : accepted schedule posts 0 0 2 ≡ none
-  -- the order is one message, and scores 3 as a FAK order and 3 for its minimum quantity
+  -- 2.2: the order is one message, and scores 3 as a FAK order and 3 for its minimum quantity
   pub both : accepted schedule posts 0 0 3 ≡ record { raw = 1; score = 6; lots = 0 }
   -- 18 is asked of the score with its minimum-quantity orders
   pub limited : accepted schedule posts 0 0 4 ≡ record { raw = 3333333334; score = 10000000000; lots = 0 }

@@ -1,4 +1,4 @@
--- The products of the factor table are totaled: that of new orders falls away, and the factors of 3 are gathered.
+-- Of the table's products that of new orders is 0, and those by 3 are 3 times a sum.
 use Prim.Native.Nat.{ℕ}
 use mathlib.Core.List.{List}
 use mathlib.Core.Path.{_≡_}

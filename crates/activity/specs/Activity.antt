@@ -1,5 +1,5 @@
--- An activity record's fields, and what it adds to its cell (document 01, "Records", kind 4, and "The day's verdict"; document 02, 2.2). R is the
--- whole record.
+-- An activity record's fields, and what it adds to its cell (document 01, "Records", kind 4, and "The day's verdict"; document 02, 2.2; the Program,
+-- section 2). R is the whole record.
 -- Assumes nothing.
 use Prim.Native.Nat.{ℕ, _+_, _*_}
 use mathlib.Core.List.{List, [], _∷_}
@@ -66,11 +66,12 @@ minimumQuantity R = u32At R 36
 abbrev pub lots : (R : List ℕ) → ℕ
 lots R = u32At R 40
 
--- The day's verdict: new orders + modifications + cancellations + FAK/FOK orders; neither mass actions nor minimum-quantity orders are in it
+-- The day's verdict: new orders + modifications + cancellations + FAK/FOK orders; mass actions are not in it. A minimum-quantity order is in it as
+-- the new or FAK/FOK order that it is (document 02, 2.2: raw counts stay)
 abbrev pub rawCount : (R : List ℕ) → ℕ
 rawCount R = newOrders R + modifications R + cancellations R + fakFok R
 
--- The Program, section 2, the factor table: each kind of message, by the record's count of it, with its pre-defined factor
+-- The Program, section 2, its table of order types and pre-defined factors, row by row: the record's count of the type, and the factor
 abbrev pub factorTable : List ((List ℕ → ℕ) × ℕ)
 factorTable =
     (newOrders, 0)  -- New Order
@@ -78,14 +79,14 @@ factorTable =
     ∷ (cancellations, 3)  -- Order Cancellation
     ∷ (massRequests, 3)  -- Order Mass Action Request
     ∷ (massReports, 3)  -- Order Mass Action Report
-    ∷ (fakFok, 3)  -- TimeInForce
+    ∷ (fakFok, 3)  -- TimeInForce: FAK and FOK orders, as the section's formula says
     ∷ (minimumQuantity, 3)  -- MinQty
     ∷ []
 
--- section 2: the count of each kind is multiplied by its factor, and the products are totaled
+-- The Program, section 2: the count of each type is multiplied by its factor, and the products are totaled
 abbrev pub weighted : List ((List ℕ → ℕ) × ℕ) → (R : List ℕ) → ℕ
 weighted [] R = 0
-weighted (kind ∷ kinds) R = kind .0 R * kind .1 + weighted kinds R
+weighted (row ∷ rows) R = row .0 R * row .1 + weighted rows R
 
 -- Document 02, 2.2: the score follows the factor table
 abbrev pub score : (R : List ℕ) → ℕ

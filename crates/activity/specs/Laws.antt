@@ -5,7 +5,7 @@ use mathlib.Core.List.{List}
 use mathlib.Core.Path.{_≡_}
 use Rattle.activity.specs.Activity.{modifications, cancellations, fakFok, massRequests, massReports, minimumQuantity, score}
 
--- The day's verdict: modifications + 3 × (cancellations + FAK/FOK orders + mass action requests + mass action reports)
+-- document 01's formula ("The day's verdict"), which decided before 2.2
 abbrev pub formula : (R : List ℕ) → ℕ
 formula R = modifications R + 3 * (cancellations R + fakFok R + massRequests R + massReports R)
 
