@@ -219,9 +219,12 @@ def input_of(seed, number):
 def split_month(seed, number):
     """A month, and for each firm its code and the month of that firm alone: the same groups, its own posts.
 
-    A record that 11 to 13 refuse is no firm's; one of another kind, if it came first, would be read as part of the schedule.
+    A record that 11 to 13 refuse is no firm's; one of another kind, if it came first, would be read as part of the schedule, so
+    no month begins with one.
     """
     month = whole_month(random.Random("split %d %d" % (seed, number)), 50_000)
+    while month.activity and month.activity[0][2:4] != le(4, 2):
+        month.activity.pop(0)
     common = b"".join(month.schedule()[:1 + len(month.groups)])
     posts = [r for r in month.activity if len(r) == 44 and r[:4] == le(44, 2) + le(4, 2)]
     own = {code: b"".join(r for r in posts if r[4:7] == code) for code in month.firms}
