@@ -141,7 +141,8 @@ def messages(r, raw, score, lots):
     """Eight counts with these totals, or a message or two more where there are none (one message cannot score 2)."""
     least = max(0, -(-(score - 3 * raw) // 3))
     least += score - 3 * least == 3 * raw - 1  # no messages score one less than three each
-    scored_only = min(score // 3, r.choice((least, least + r.randrange(1_000))))  # mass actions and minimum quantities: in no raw count
+    # mass actions and minimum-quantity orders: their counts add to the score alone
+    scored_only = min(score // 3, r.choice((least, least + r.randrange(1_000))))
     rest = score - 3 * scored_only
     ended = r.randint(min(max(0, -(-(rest - raw) // 2)), rest // 3), rest // 3)
     modified = rest - 3 * ended

@@ -1,6 +1,6 @@
 -- A computed example of posts: a schedule as in document 01's whole run (October 2019, ES, firm ABC), but with day 2 not in effect, and
 -- records whose counts are all different, so that a count read in the place of another, or another factor, would show; then (document 02, 2.2) a
--- FAK order with a minimum quantity, and a score that minimum-quantity orders bring to the limit.
+-- FAK order with a minimum quantity, and a score that minimum-quantity orders bring to one below the limit.
 -- Assumes nothing.
 use Prim.Native.Nat.{ℕ, _+_}
 use mathlib.Core.List.{List, [], _∷_, _++_}
@@ -26,8 +26,8 @@ use Rattle.accepted.specs.Samples.{head, group, firm, activity}
 abbrev schedule : List ℕ
 schedule = head 2 ++ group 69 83 1 ++ firm
 
--- a record of ABC in ES: 1 modification, and of each next count ten times as many: cancellations, FAK/FOK orders, mass action requests and reports,
--- minimum-quantity orders, new orders, lots
+-- a record of ABC in ES, each count ten times the one before: 1 modification, then cancellations, FAK/FOK orders, mass action requests, mass action
+-- reports, minimum-quantity orders, new orders, lots
 abbrev counts : (day contract : ℕ) → List ℕ
 counts day contract = activity 69 83 day contract 1000000 1 10 100 1000 10000 100000 10000000
 

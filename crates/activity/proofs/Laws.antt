@@ -1,4 +1,5 @@
--- Of the table's products that of new orders is 0, and those by 3 are 3 times a sum.
+-- New orders have the factor 0, and 3 times each of several counts is 3 times their sum. What a record adds is its definitions' values, however they
+-- were summed.
 use Prim.Native.Nat.{ℕ}
 use mathlib.Core.List.{List}
 use mathlib.Core.Path.{_≡_}
@@ -9,7 +10,7 @@ use Rattle.activity.specs.Laws.{ScoreGains}
 pub score-gains : (R : List ℕ) → ScoreGains R
 score-gains R = omega arith
 
--- what a record adds, its raw count and score summed in any order
+-- what a record adds, from a raw count and a score that equal the definitions'
 pub totals-with : (R : List ℕ) (raw score′ : ℕ) → raw ≡ rawCount R → score′ ≡ score R → record { raw = raw; score = score′; lots = lots R } ≡ totalsOf R
 unfolding totalsOf
 totals-with R raw score′ p q = λ i. record { raw = p i; score = q i; lots = lots R }

@@ -74,13 +74,13 @@ rawCount R = newOrders R + modifications R + cancellations R + fakFok R
 -- The Program, section 2, its table of order types and pre-defined factors, row by row: the record's count of the type, and the factor
 abbrev pub factorTable : List ((List ℕ → ℕ) × ℕ)
 factorTable =
-    (newOrders, 0)  -- New Order
-    ∷ (modifications, 1)  -- Order Modification
-    ∷ (cancellations, 3)  -- Order Cancellation
-    ∷ (massRequests, 3)  -- Order Mass Action Request
-    ∷ (massReports, 3)  -- Order Mass Action Report
-    ∷ (fakFok, 3)  -- TimeInForce: FAK and FOK orders, as the section's formula says
-    ∷ (minimumQuantity, 3)  -- MinQty
+    (newOrders, 0)  -- New Order: Tag 35-MessageType=D
+    ∷ (modifications, 1)  -- Order Modification: Tag 35-MessageType=G
+    ∷ (cancellations, 3)  -- Order Cancellation: Tag 35-MessageType=F
+    ∷ (massRequests, 3)  -- Order Mass Action Request: Tag 35-MessageType=CA
+    ∷ (massReports, 3)  -- Order Mass Action Report: Tag 35-MessageType=BZ
+    ∷ (fakFok, 3)  -- TimeInForce: any order submitted with Tag 59-TimeInForce; "FAK or FOK order types" in the section's formula
+    ∷ (minimumQuantity, 3)  -- MinQty: any order submitted with Tag 110-MinQty
     ∷ []
 
 -- The Program, section 2: the count of each type is multiplied by its factor, and the products are totaled

@@ -5,7 +5,7 @@ use mathlib.Core.List.{List}
 use mathlib.Core.Path.{_≡_}
 use Rattle.activity.specs.Activity.{modifications, cancellations, fakFok, massRequests, massReports, minimumQuantity, score}
 
--- document 01's formula ("The day's verdict"), which decided before 2.2
+-- document 01's formula ("The day's verdict"), without minimum-quantity orders
 abbrev pub formula : (R : List ℕ) → ℕ
 formula R = modifications R + 3 * (cancellations R + fakFok R + massRequests R + massReports R)
 

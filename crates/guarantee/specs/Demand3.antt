@@ -1,6 +1,6 @@
 -- Demand 3 of the customer's letter, in the words of document 01 ("Demand 3 is a single claim about whole lists of posts") and of the calls,
--- bytes and scores as document 02, 2.1 and 2.2, has them. S is the schedule, any bytes; C a firm's code; rs a list of posts, any byte strings. Proved in
--- proofs/Demand3.antt: of every schedule and every firm that it lists.
+-- bytes and scores as document 02, 2.1 and 2.2, has them. S is the schedule, any bytes; C a firm's code; rs a list of posts, any byte strings.
+-- Proved in proofs/Demand3.antt: of every schedule and every firm that it lists.
 -- Assumes nothing.
 use Prim.Native.Nat.{ℕ, _+_, _*_, _≤_}
 use mathlib.Core.Bool.{Bool}

@@ -1,4 +1,4 @@
--- Each field is read at its offset as 32 bits, so no sum leaves 64 bits; the score's is the total of the factor table's products.
+-- Each field is read at its offset as 32 bits, so no sum leaves 64 bits; that of the score is the total of the factor table's products.
 use native.Mathlib.Omega.{arith}
 use borrow.Author.Needs.{needs}
 use Rattle.activity.proofs.Laws.{totals-with}
