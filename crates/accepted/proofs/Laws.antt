@@ -13,7 +13,7 @@ use Rattle.wire.specs.Lists.{table, over}
 use Rattle.wire.proofs.Bools.{and-left, and-right, range, in-range}
 use Rattle.wire.proofs.Folds.{fold-keeps, fold-kept}
 use Rattle.wire.proofs.Lists.{length-over, length-put, drop-put, length-table, table-over, table-behind}
-use Rattle.rules.specs.Month.{Cells}
+use Rattle.rules.specs.Month.{DailyTotals}
 use Rattle.schedule.specs.Outcome.{Outcome, refused, good, follow, given}
 use Rattle.schedule.specs.Check.{checkOf}
 use Rattle.lookup.specs.declared.Layout.{Layout}
@@ -208,5 +208,5 @@ laws S {l} e =
       own-only = λ C f ps qs c s. ap totals (sym (accepted-own S e C f ps c) ∙ ap (λ rs. acceptedCells S rs f) s ∙ accepted-own S e C f qs c);
     }
   where
-    totals : ((g d : ℕ) → Cell) → Cells
+    totals : ((g d : ℕ) → Cell) → DailyTotals
     totals c g d = c g d .totals

@@ -8,7 +8,7 @@ use lib.Dec.{eqb}
 use Rattle.records.specs.Fields.{sameCode}
 use Rattle.wire.specs.Choose.{choose}
 use Rattle.wire.specs.Lists.{keep}
-use Rattle.rules.specs.Month.{Cells}
+use Rattle.rules.specs.Month.{DailyTotals}
 use Rattle.schedule.specs.Outcome.{given}
 use Rattle.schedule.specs.Check.{checkOf}
 use Rattle.lookup.specs.declared.Layout.{Layout}
@@ -33,7 +33,7 @@ unfoldable pub acceptedCells : (S : List ℕ) → (rs : List (List ℕ)) → (f 
 acceptedCells S rs f g d = given (checkOf S) empty (λ l. foldl (accept S l f g d) empty rs)
 
 -- Accepted totals of a firm's cells
-abbrev pub accepted : (S : List ℕ) → (rs : List (List ℕ)) → (f : ℕ) → Cells
+abbrev pub accepted : (S : List ℕ) → (rs : List (List ℕ)) → (f : ℕ) → DailyTotals
 accepted S rs f g d = acceptedCells S rs f g d .totals
 
 -- A firm's own posts: the records that 11 to 13 don't refuse and that carry its code C at 4

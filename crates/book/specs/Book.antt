@@ -9,7 +9,7 @@ use lib.Dec.{ltb}
 use lib.ListN.{length, getD}
 use Rattle.wire.specs.Choose.{within}
 use Rattle.wire.specs.Lists.{table, put, over}
-use Rattle.rules.specs.Month.{Cells}
+use Rattle.rules.specs.Month.{DailyTotals}
 use Rattle.rules.specs.declared.Totals.{Totals}
 use Rattle.schedule.specs.Outcome.{Outcome, refused, good, follow, given}
 use Rattle.schedule.specs.Check.{checkOf}
@@ -67,7 +67,7 @@ abbrev pub cells : (G : ℕ) → (B : List ℕ) → (f g day : ℕ) → Cell
 cells G B f g day = cond (ltb g G && within 1 31 day) (cellAt B (index G f g day)) empty
 
 -- their totals, by which days and months are judged
-abbrev pub totalsIn : (G : ℕ) → (B : List ℕ) → (f : ℕ) → Cells
+abbrev pub totalsIn : (G : ℕ) → (B : List ℕ) → (f : ℕ) → DailyTotals
 totalsIn G B f g day = cells G B f g day .totals
 
 -- Numbers of refusal, 1 to 8, of every call but the verdict: the schedule's, then a book of so many numbers under 93 × G × F; else what the

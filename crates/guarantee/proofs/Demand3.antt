@@ -20,7 +20,7 @@ use Rattle.wire.proofs.Choose.{none-some}
 use Rattle.wire.proofs.Sums.{sum-same, sum-add, count-most}
 use Rattle.calendar.specs.Calendar.{daysIn}
 use Rattle.rules.specs.Verdict.{version96, isViolation}
-use Rattle.rules.specs.Month.{Cells}
+use Rattle.rules.specs.Month.{DailyTotals}
 use Rattle.rules.specs.Marks.{places, dayOf, groupOf, Judged, isBilled, mark, violations, marked, billed, amount}
 use Rattle.rules.specs.Laws.{Laws}
 use Rattle.rules.proofs.Laws.{falling96, laws as rulesLaws}
@@ -191,7 +191,7 @@ module _ (S C : List ℕ) (l : Layout) (e : checkOf S ≡ good l) where
 
     -- and its statement is that of its accepted totals
     stated : (out : List ℕ) → (statementAnswer S after C out ≡ refused 23 0 → ⊥) → Written S after C out l (monthOf S l (accepted S rs (firmPlace S l C)))
-    stated out enough = subst (λ (c : Cells). Written S after C out l (monthOf S l c)) held (written S after C out l judged-after enough)
+    stated out enough = subst (λ (c : DailyTotals). Written S after C out l (monthOf S l c)) held (written S after C out l judged-after enough)
 
 -- the bytes of a firm's statement after a list
 abbrev bytesAfter : (S C : List ℕ) → (rs : List (List ℕ)) → List ℕ
@@ -227,7 +227,7 @@ module _ (S C : List ℕ) (listed : isListed S C ≡ true) where
       let laws = bookLaws S (opens S (p .book) (p .opened) .schedule) in
       let alike : totalsAfter S C (p .posts) ≡ totalsAfter S C (q .posts) =
       laws .own-only C _ (p .posts) (q .posts) (place-found S C (layout S) listed) h in
-      let e : bytesAfter S C (p .posts) ≡ bytesAfter S C (q .posts) = ap (λ (c : Cells). statementBytes S (layout S) (monthOf S (layout S) c)) alike in
+      let e : bytesAfter S C (p .posts) ≡ bytesAfter S C (q .posts) = ap (λ (c : DailyTotals). statementBytes S (layout S) (monthOf S (layout S) c)) alike in
       record {
         written = length (bytesAfter S C (p .posts));
         first = run p .answer;

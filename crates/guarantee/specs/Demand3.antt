@@ -7,7 +7,7 @@ use mathlib.Core.Bool.{Bool}
 use mathlib.Core.List.{List}
 use mathlib.Core.Path.{_≡_}
 use lib.ListN.{take, drop}
-use Rattle.rules.specs.Month.{Cells}
+use Rattle.rules.specs.Month.{DailyTotals}
 use Rattle.rules.specs.Marks.{Judged, violations, marked, billed, amount}
 use Rattle.rules.specs.Lighter.{LighterMonth}
 use Rattle.rules.specs.declared.Rules.{Rules}
@@ -33,7 +33,7 @@ module _ (S C : List ℕ) where
   isListed = firmListed S (layout S) C
 
   -- Accepted totals of its cells come from the schedule and the list alone
-  abbrev pub totalsAfter : (rs : List (List ℕ)) → Cells
+  abbrev pub totalsAfter : (rs : List (List ℕ)) → DailyTotals
   totalsAfter rs = accepted S rs (firmPlace S (layout S) C)
 
   -- Codes, exemptions and marks are worked out from its accepted totals by the rules in force

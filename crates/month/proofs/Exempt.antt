@@ -14,7 +14,7 @@ use Rattle.wire.proofs.Bools.{and-left, and-right, cond-le, cond-where, range}
 use Rattle.wire.proofs.Choose.{every, none-at}
 use Rattle.wire.proofs.Sums.{sum-more, sum-le, sum-most, sum-cost}
 use Rattle.rules.specs.Verdict.{version96, verdict, isViolation, limit, fits, isBenchmark, daysVerdict}
-use Rattle.rules.specs.Month.{Terms, Cells, counted, overCounted, days, sums, exempt}
+use Rattle.rules.specs.Month.{Terms, DailyTotals, counted, overCounted, days, sums, exempt}
 use Rattle.rules.specs.Marks.{places, dayOf, groupOf, verdictAt}
 use Rattle.rules.specs.declared.Totals.{Totals}
 use Rattle.rules.proofs.Codes.{Fitting, fitting, exempt-code, days-decided}
@@ -30,7 +30,7 @@ use Rattle.month.specs.Parts.{Sound, Within, withDay, sumsTo, verdictIn}
 use Rattle.month.specs.declared.days.MonthSums.{MonthSums}
 
 -- a cell of a day in effect stands at one of the places that 22 looks at
-module _ (S : List ℕ) {l : Layout} (c : Cells) (ok : Sound S l c) (g day : ℕ) (h : g < 32) (on : inEffect (l .month) (l .closed) day ≡ true) where
+module _ (S : List ℕ) {l : Layout} (c : DailyTotals) (ok : Sound S l c) (g day : ℕ) (h : g < 32) (on : inEffect (l .month) (l .closed) day ≡ true) where
   pub cell-fits : fits 1 (c g day) ≡ true
   unfolding anyExcess
   cell-fits =
@@ -43,7 +43,7 @@ module _ (S : List ℕ) {l : Layout} (c : Cells) (ok : Sound S l c) (g day : ℕ
       not-false _ (simp (p, q, le-leb _ _ (r .most)) at z)
 
 -- so there is a verdict on a cell of a listed group, on a day in effect, and it is the place's
-pub verdict-place : (S : List ℕ) {l : Layout} (c : Cells) → Sound S l c → (i : ℕ)
+pub verdict-place : (S : List ℕ) {l : Layout} (c : DailyTotals) → Sound S l c → (i : ℕ)
     → (ltb (groupOf i) (l .groups) && inEffect (l .month) (l .closed) (dayOf i)) ≡ true
     → verdictIn (daysVerdict 1 (c (groupOf i) (dayOf i)) (groupAt S l (groupOf i) .benchmark)) ≡ verdictAt (rulesOf S) (terms S l) c i
 verdict-place S {l} c ok i e =
@@ -59,7 +59,7 @@ day-more : (t : Bool) (s : MonthSums) (a : Totals)
 day-more true s a = refl
 day-more false s a = simp add-zero
 
-module _ (s : Terms) (c : Cells) (g : ℕ) where
+module _ (s : Terms) (c : DailyTotals) (g : ℕ) where
   pub sums-none : sumsTo s c g 0 ≡ record { raw = 0; score = 0; lots = 0; days = 0 }
   unfolding sumsTo sum
   sums-none = refl

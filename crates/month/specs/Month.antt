@@ -11,7 +11,7 @@ use Rattle.wire.specs.Choose.{choose, some}
 use Rattle.wire.specs.Lists.{table}
 use Rattle.calendar.specs.Calendar.{daysIn, inEffect}
 use Rattle.rules.specs.Verdict.{fits}
-use Rattle.rules.specs.Month.{Terms, Cells, exempt}
+use Rattle.rules.specs.Month.{Terms, DailyTotals, exempt}
 use Rattle.rules.specs.Marks.{mostGroups, places, dayOf, groupOf, Judged, judged, mark}
 use Rattle.schedule.specs.Outcome.{Outcome, refused, good, follow, given}
 use Rattle.lookup.specs.Lookup.{groupStart, groupAt, firmListed, firmPlace}
@@ -32,20 +32,20 @@ terms S l =
     }
 
 -- The month: a firm's verdicts, exemptions and groupings, from its totals and by the rules in force
-abbrev pub monthOf : (S : List ℕ) → Layout → Cells → Judged
+abbrev pub monthOf : (S : List ℕ) → Layout → DailyTotals → Judged
 monthOf S l c = judged (rulesOf S) (terms S l) c
 
 -- Numbers of refusal, 22: a number of that firm, days of the month, above 10,000,000,000; here on the day and in the group of place i
-abbrev pub isExcess : Layout → Cells → (i : ℕ) → Bool
+abbrev pub isExcess : Layout → DailyTotals → (i : ℕ) → Bool
 isExcess l c i = leb (dayOf i) (daysIn (l .month)) && not (fits 1 (c (groupOf i) (dayOf i)))
 
 -- and anywhere
-unfoldable pub anyExcess : Layout → Cells → Bool
+unfoldable pub anyExcess : Layout → DailyTotals → Bool
 anyExcess l c = some places (isExcess l c)
 
 module _ (S B C : List ℕ) (l : Layout) where
   -- the firm's totals in the book
-  abbrev pub firmTotals : Cells
+  abbrev pub firmTotals : DailyTotals
   firmTotals = totalsIn (l .groups) B (firmPlace S l C)
 
   -- its month
@@ -72,7 +72,7 @@ abbrev pub groupingsOf : (S : List ℕ) → Layout → List ℕ
 groupingsOf S l = table mostGroups (λ g. groupAt S l g .grouping)
 
 -- the groups' exemptions, for the totals c
-abbrev pub exemptsOf : (S : List ℕ) → Layout → Cells → List Bool
+abbrev pub exemptsOf : (S : List ℕ) → Layout → DailyTotals → List Bool
 exemptsOf S l c = table mostGroups (exempt (rulesOf S) (terms S l) c)
 
 -- what the call promises: a refusal, with zeros in the arrays, or the firm's month, place by place and group by group

@@ -19,7 +19,7 @@ use Rattle.wire.proofs.Cut.{cut-none}
 use Rattle.wire.proofs.Lists.{joined-most}
 use Rattle.wire.proofs.Sums.{count-blocks}
 use Rattle.rules.specs.Verdict.{version96, notJudged, verdict, isViolation}
-use Rattle.rules.specs.Month.{Cells}
+use Rattle.rules.specs.Month.{DailyTotals}
 use Rattle.rules.specs.Marks.{places, dayOf, groupOf}
 use Rattle.schedule.specs.Outcome.{Outcome, refused, good, follow, given}
 use Rattle.schedule.specs.Check.{checkOf}
@@ -86,7 +86,7 @@ module _ (C : List ℕ) (three : length C ≡ 3) where
       rw n (simp length-append (omega (arith, totals-most C three (drop (bytes - bothTotals) R), totals-most C three (drop (bytes - totalsSize) R))))
 
 -- a firm has at most a violation a day in each group: a place past the last group has none
-violations-most : (S : List ℕ) (l : Layout) (c : Cells) → count places (λ i. isViolation (monthOf S l c .verdict i .code)) ≤ 31 * l .groups
+violations-most : (S : List ℕ) (l : Layout) (c : DailyTotals) → count places (λ i. isViolation (monthOf S l c .verdict i .code)) ≤ 31 * l .groups
 violations-most S l c = count-blocks (λ i. isViolation (monthOf S l c .verdict i .code)) (l .groups) (λ i. go i (ltb (groupOf i) (l .groups)) refl) 31
   where
     go : (i : ℕ) (b : Bool) → ltb (groupOf i) (l .groups) ≡ b

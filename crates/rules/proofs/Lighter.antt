@@ -12,7 +12,7 @@ use Rattle.wire.proofs.Bools.{and-left, and-right, cond-where}
 use Rattle.wire.proofs.Implies.{_⇒_, not-⇒, and-⇒, leb-⇒}
 use Rattle.wire.proofs.Sums.{sum-le}
 use Rattle.rules.specs.Verdict.{notJudged, Falling, isViolation, isSevere}
-use Rattle.rules.specs.Month.{Terms, Cells, counted, overCounted, days, sums, exempt}
+use Rattle.rules.specs.Month.{Terms, DailyTotals, counted, overCounted, days, sums, exempt}
 use Rattle.rules.specs.Marks.{dayOf, groupOf, judged, amount}
 use Rattle.rules.specs.Lighter.{Lighter, LighterMonth}
 use Rattle.rules.specs.declared.Rules.{Rules}
@@ -26,12 +26,12 @@ pub eased : {t′ t : Totals} {d : ℕ} → Lighter t′ t → Eased d t′ d t
 eased h = record { edges = λ e. leb-⇒ (h .raw) (le-refl _); score = h .score; lots = h .lots }
 
 -- where the same days count, a sum over them rises with what is summed
-over-le : (s : Terms) (g : ℕ) (c₁ c₂ : Cells) → ((k : ℕ) → counted s c₁ g k ≡ counted s c₂ g k)
+over-le : (s : Terms) (g : ℕ) (c₁ c₂ : DailyTotals) → ((k : ℕ) → counted s c₁ g k ≡ counted s c₂ g k)
     → (f : Totals → ℕ) → ((k : ℕ) → s .inEffect k ≡ true → f (c₁ g k) ≤ f (c₂ g k)) → overCounted s c₁ 31 g f ≤ overCounted s c₂ 31 g f
 over-le s g c₁ c₂ same f h =
     sum-le 31 _ _ (λ i l. rw (same (i + 1)) (cond-where (counted s c₂ g (i + 1)) (λ q. h (i + 1) (and-left (s .inEffect (i + 1)) _ q))))
 
-module _ (s : Terms) (c′ c : Cells) (h : LighterMonth s c′ c) (g : ℕ) (hg : g < s .groups) where
+module _ (s : Terms) (c′ c : DailyTotals) (h : LighterMonth s c′ c) (g : ℕ) (hg : g < s .groups) where
   pub same-days : (k : ℕ) → counted s c′ g k ≡ counted s c g k
   same-days k = go (s .inEffect k) (ltb 0 (c g k .raw)) refl refl
     where
@@ -77,7 +77,7 @@ placed true true v′ x′ v x h =
       both = rw (either (kind (v′ .code)) x′, either (kind (v .code)) x) (and-⇒ (p .violation) (not-⇒ (and-⇒ (not-⇒ (p .severe)) (p .stays))) .le);
     }
 
-module _ (P : Rules) (F : Falling P) (s : Terms) (c′ c : Cells) (h : LighterMonth s c′ c) where
+module _ (P : Rules) (F : Falling P) (s : Terms) (c′ c : DailyTotals) (h : LighterMonth s c′ c) where
   pub exempt-stays : (g : ℕ) → g < s .groups → exempt P s c g ⇒ exempt P s c′ g
   exempt-stays g hg =
       rw (exempt-code P (s .benchmark g) (days s c g) (sums s c g), exempt-code P (s .benchmark g) (days s c′ g) (sums s c′ g))

@@ -6,7 +6,7 @@ use mathlib.Core.Bool.{true, cond, _&&_}
 use mathlib.Core.Path.{_≡_}
 use lib.Dec.{ltb, eqb}
 use Rattle.rules.specs.Verdict.{version96, tierFactor, exceeds, verdict, isViolation, isSevere, isRefused, decided, refusal, daysVerdict, numberOf, panelNumber}
-use Rattle.rules.specs.Month.{Terms, Cells, exempt}
+use Rattle.rules.specs.Month.{Terms, DailyTotals, exempt}
 use Rattle.rules.specs.Marks.{Judged, judged, violations, marked, billed, amount}
 use Rattle.rules.specs.Lighter.{Lighter, LighterMonth}
 use Rattle.rules.specs.declared.Rules.{Rules}
@@ -28,9 +28,9 @@ pub record Laws (P : Rules) : Type 0 where
   -- lighter traffic is no worse a code
   pub lighter-code : (B d : ℕ) (t′ t : Totals) → Lighter t′ t → NoWorse (verdict P B d t′ .code) (verdict P B d t .code)
   -- it keeps an exemption
-  pub lighter-exempt : (s : Terms) (c′ c : Cells) → LighterMonth s c′ c → (g : ℕ) → g < s .groups → exempt P s c g ≡ true → exempt P s c′ g ≡ true
+  pub lighter-exempt : (s : Terms) (c′ c : DailyTotals) → LighterMonth s c′ c → (g : ℕ) → g < s .groups → exempt P s c g ≡ true → exempt P s c′ g ≡ true
   -- and so does not raise the amount, in any grouping
-  pub lighter-amount : (s : Terms) (c′ c : Cells) → LighterMonth s c′ c → (e : ℕ) → amount P (judged P s c′) e ≤ amount P (judged P s c) e
+  pub lighter-amount : (s : Terms) (c′ c : DailyTotals) → LighterMonth s c′ c → (e : ℕ) → amount P (judged P s c′) e ≤ amount P (judged P s c) e
   -- violations = monthly + automatic + billed
   pub adds-up : (j : Judged) (e : ℕ) → violations j e ≡ marked P j e 3 + marked P j e 4 + billed P j e
   -- and the amount is that of the billed

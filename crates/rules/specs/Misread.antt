@@ -9,7 +9,7 @@ use Rattle.wire.specs.Choose.{choose, within}
 use Rattle.wire.specs.Lists.{joined, table}
 use Rattle.wire.specs.Sums.{sum}
 use Rattle.rules.specs.Verdict.{version96, verdict}
-use Rattle.rules.specs.Month.{Terms, Cells, exempt}
+use Rattle.rules.specs.Month.{Terms, DailyTotals, exempt}
 use Rattle.rules.specs.Marks.{Judged, mark}
 
 -- six times B without m: a day of the lowest tier whose score is above six times B × lots, and not above six times B × 3 × lots, is ordinary
@@ -21,7 +21,7 @@ ordinary-day = refl
 abbrev terms : Terms
 terms = record { groups = 1; inEffect = within 1 2; benchmark = λ g. 1000; grouping = λ g. 1 }
 
-abbrev cells : Cells
+abbrev cells : DailyTotals
 cells g day = cond (eqb day 1) (record { raw = 20001; score = 3; lots = 0 }) (record { raw = 0; score = 0; lots = 1000 })
 
 -- day 2 is no counted day, and its lots are not summed: either would exempt the month

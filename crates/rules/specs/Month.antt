@@ -17,10 +17,10 @@ pub record Terms : Type 0 where
   pub grouping : (g : ℕ) → ℕ
 
 -- a firm's totals, by group and day: a cell is one firm, one product group, one day
-abbrev pub Cells : Type 0
-Cells = (g day : ℕ) → Totals
+abbrev pub DailyTotals : Type 0
+DailyTotals = (g day : ℕ) → Totals
 
-module _ (s : Terms) (c : Cells) where
+module _ (s : Terms) (c : DailyTotals) where
   -- The month: counted days are days in effect with raw above zero
   abbrev pub counted : (g day : ℕ) → Bool
   counted g day = s .inEffect day && ltb 0 (c g day .raw)
@@ -47,5 +47,5 @@ abbrev pub isExempt : Rules → (B d : ℕ) → Totals → Bool
 isExempt P B d t = leb (t .raw) (P .edge1 * d) || not (exceeds P B d t)
 
 -- a group is exempt
-abbrev pub exempt : Rules → (s : Terms) → Cells → (g : ℕ) → Bool
+abbrev pub exempt : Rules → (s : Terms) → DailyTotals → (g : ℕ) → Bool
 exempt P s c g = isExempt P (s .benchmark g) (days s c g) (sums s c g)

@@ -7,7 +7,7 @@ use denote.Ref.{now}
 use borrow.Author.Needs.{needs}
 use Rattle.wire.proofs.Bools.{and-left}
 use Rattle.calendar.specs.Calendar.{inEffect}
-use Rattle.rules.specs.Month.{Cells, counted, days, sums, exempt}
+use Rattle.rules.specs.Month.{DailyTotals, counted, days, sums, exempt}
 use Rattle.rules.specs.Verdict.{fits, isViolation, isBenchmark, daysVerdict, daysMeaning}
 use Rattle.lookup.specs.InForce.{rulesOf}
 use Rattle.lookup.specs.Lookup.{groupAt}
@@ -32,7 +32,7 @@ module _ (c : tie.After-days-verdict) where
   abbrev from : tie.Start
   from = start (test c)
 
-  abbrev traffic : Cells
+  abbrev traffic : DailyTotals
   traffic = let a = from .args in totalsIn (a .l .groups) (now (a .book)) (a .firm)
 
   fit : let a = from .args in (day : ℕ) → counted (terms (now (a .schedule)) (a .l)) traffic (a .g) day ≡ true → fits 1 (traffic (a .g) day) ≡ true

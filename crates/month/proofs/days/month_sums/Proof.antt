@@ -6,7 +6,7 @@ use native.Mathlib.Omega.{arith}
 use denote.Ref.{now}
 use borrow.Author.Needs.{needs}
 use Rattle.wire.proofs.Bools.{and-left}
-use Rattle.rules.specs.Month.{Cells, counted}
+use Rattle.rules.specs.Month.{DailyTotals, counted}
 use Rattle.rules.specs.Verdict.{fits}
 use Rattle.calendar.specs.Calendar.{inEffect}
 use Rattle.book.specs.Book.{totalsIn}
@@ -27,7 +27,7 @@ with-cell-requires c κs =
     let l = c .before .before .before .before in
     let s = l .before .before .before in
     let a = s .args in
-    let f : Cells = totalsIn (a .l .groups) (a .book .now) (a .firm) in
+    let f : DailyTotals = totalsIn (a .l .groups) (a .book .now) (a .firm) in
     let fit : (day : ℕ) → counted (terms (a .schedule .now) (a .l)) f (a .group) day ≡ true → fits 1 (f (a .group) day) ≡ true
     = λ day e. cell-fits (a .schedule .now) f (s .pre .1) (a .group) day (s .pre .0) (and-left (inEffect (a .l .month) (a .l .closed) day) _ e) in
     let w = sums-within (terms (a .schedule .now) (a .l)) f (a .group) fit (l .loop .d) in (
