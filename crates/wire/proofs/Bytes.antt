@@ -1,12 +1,17 @@
 -- Laws of numbers in bytes: past the end stand zeros, and a number that was written is read again.
-use Prim.Native.Nat.{ℕ, _+_, _*_, _/_, _%_, _≤_, _<_}
-use mathlib.Core.List.{List, _++_}
-use mathlib.Core.Path.{_≡_, _∙_}
+use Prim.Native.Nat.{ℕ, zero, suc, _+_, _*_, _/_, _%_, _≤_, _<_}
+use mathlib.Core.Bool.{true}
+use mathlib.Core.List.{List, [], _∷_, _++_}
+use mathlib.Core.Path.{_≡_, refl, _∙_}
 use native.Mathlib.Nat.{add-assoc, div-div-eq-div-mul}
 use native.Mathlib.Omega.{arith}
-use lib.ListN.{length, drop, List·getD-eq-default}
+use lib.Dec.{ltb, lit≤}
+use lib.ListN.{length, getD, take, drop, List·getD-eq-default}
 use lib.Seq.{getD-append-add, getD-drop}
-use Rattle.wire.specs.Bytes.{u16At, u32At, u16Bytes, u32Bytes}
+use borrow.Author.Tests.{ltb-true}
+use Rattle.wire.specs.Bytes.{areBytes, u16At, u32At, u16Bytes, u32Bytes}
+use Rattle.wire.specs.Choose.{all}
+use Rattle.wire.proofs.Bools.{and-left, and-right}
 
 module _ (S : List ℕ) (i : ℕ) where
   pub u16-past : length S ≤ i → u16At S i ≡ 0
@@ -20,6 +25,30 @@ module _ (S : List ℕ) (i : ℕ) where
 
   pub u32-past : length S ≤ i → u32At S i ≡ 0
   u32-past h = u32-short (omega arith) ∙ u16-past S i h
+
+-- parts of a list of bytes are of bytes
+pub bytes-take : (n : ℕ) (S : List ℕ) → areBytes S ≡ true → areBytes (take n S) ≡ true
+unfolding areBytes all
+bytes-take zero S e = refl
+bytes-take (suc n) [] e = refl
+bytes-take (suc n) (b ∷ bs) e = rw (and-left (ltb b 256) (areBytes bs) e) (bytes-take n bs (and-right (ltb b 256) (areBytes bs) e))
+
+pub bytes-drop : (n : ℕ) (S : List ℕ) → areBytes S ≡ true → areBytes (drop n S) ≡ true
+unfolding areBytes all
+bytes-drop zero S e = e
+bytes-drop (suc n) [] e = refl
+bytes-drop (suc n) (b ∷ bs) e = bytes-drop n bs (and-right (ltb b 256) (areBytes bs) e)
+
+-- a byte is below 256, so that a number of four of them is below 2^32
+byte-most : (S : List ℕ) → areBytes S ≡ true → (i : ℕ) → getD S i 0 ≤ 255
+unfolding areBytes all
+byte-most [] e i = lit≤ tt
+byte-most (b ∷ bs) e zero = omega (arith, ltb-true b 256 (and-left (ltb b 256) (areBytes bs) e))
+byte-most (b ∷ bs) e (suc i) = byte-most bs (and-right (ltb b 256) (areBytes bs) e) i
+
+pub u32-most : (S : List ℕ) (i : ℕ) → areBytes S ≡ true → u32At S i ≤ 4294967295
+unfolding u32At u16At
+u32-most S i e = omega (arith, byte-most S e i, byte-most S e (i + 1), byte-most S e (i + 2), byte-most S e (i + 2 + 1))
 
 -- a reading behind a front is that of the rest
 module _ (xs ys : List ℕ) (i : ℕ) where

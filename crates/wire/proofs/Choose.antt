@@ -54,6 +54,11 @@ pub passed-first : (cs ds : List (Bool × ℕ)) → Passed (cs ++ ds) → Passed
 passed-first [] ds p = tt
 passed-first (c ∷ cs) ds p = (p .0, passed-first cs ds (p .1))
 
+-- and of the second
+pub passed-second : (cs ds : List (Bool × ℕ)) → Passed (cs ++ ds) → Passed ds
+passed-second [] ds p = p
+passed-second (c ∷ cs) ds p = passed-second cs ds (p .1)
+
 -- every value of a table measures at most m
 abbrev pub small : {A : Type 0} → (A → ℕ) → (m : ℕ) → List (Bool × A) → Bool
 small size m [] = true

@@ -1,17 +1,18 @@
 -- Laws of a run of records: what its first record takes, and the cut one record at a time.
 use Prim.Native.Nat.{ℕ, zero, suc, _+_, _-_, _≤_, _<_}
-use mathlib.Core.Bool.{Bool, true, false, and-false}
-use mathlib.Core.List.{List, [], _∷_}
+use mathlib.Core.Bool.{Bool, true, false, cond, and-false}
+use mathlib.Core.List.{List, [], _∷_, map}
 use mathlib.Core.Path.{_≡_, refl, sym, ap}
 use native.Mathlib.Nat.{le-refl}
 use native.Mathlib.Omega.{arith}
 use lib.Dec.{eqb, leb}
 use lib.ListN.{length, take, drop, length-drop}
 use borrow.Author.Tests.{eqb-false, ne-eqb, le-leb, lt-leb, leb-true}
-use Rattle.wire.specs.Bytes.{u16At}
-use Rattle.wire.specs.Choose.{within}
+use Rattle.wire.specs.Bytes.{areBytes, u16At}
+use Rattle.wire.specs.Choose.{all, within}
 use Rattle.wire.specs.Cut.{firstLength, cutIn, cut}
 use Rattle.wire.proofs.Bools.{and-left, and-right}
+use Rattle.wire.proofs.Bytes.{bytes-take, bytes-drop}
 use Rattle.wire.proofs.Lists.{part-lent}
 
 module _ (S : List ℕ) where
@@ -94,3 +95,16 @@ cut-at S at len h e =
     let left = length-drop at S in
     let f = first-in (drop at S) in
     record { first = first; some = omega (arith, first, left, f .some (omega arith)); most = omega (arith, first, left, f .most) }
+
+-- a run of bytes has records of bytes
+pub cut-bytes : (fuel : ℕ) (S : List ℕ) → areBytes S ≡ true → all (map areBytes (cutIn fuel S)) ≡ true
+unfolding cutIn all
+cut-bytes zero S e = refl
+cut-bytes (suc fuel) S e = go (eqb (length S) 0) (cut-bytes fuel (drop (firstLength S) S) (bytes-drop (firstLength S) S e))
+  where
+    n : ℕ
+    n = firstLength S
+
+    go : (b : Bool) → all (map areBytes (cutIn fuel (drop n S))) ≡ true → all (map areBytes (cond b [] (take n S ∷ cutIn fuel (drop n S)))) ≡ true
+    go true h = refl
+    go false h = rw (bytes-take n S e) h

@@ -1,8 +1,10 @@
 -- Laws of walks over a list: what each step keeps the walk keeps, and what a step passes over may be left out.
 use mathlib.Core.Bool.{Bool, true, false, cond}
-use mathlib.Core.List.{List, [], _∷_, foldl}
+use mathlib.Core.List.{List, [], _∷_, foldl, map}
 use mathlib.Core.Path.{_≡_, refl}
+use Rattle.wire.specs.Choose.{all}
 use Rattle.wire.specs.Lists.{keep}
+use Rattle.wire.proofs.Bools.{and-left, and-right}
 
 -- two walks of one list keep what each step keeps
 pub fold-keeps : {A B R : Type 0} (I : A → B → Type 0) (p : A → R → A) (q : B → R → B)
@@ -15,6 +17,13 @@ fold-keeps I p q h a b (r ∷ rs) i = fold-keeps I p q h (p a r) (q b r) rs (h a
 pub fold-kept : {A R : Type 0} (P : A → Type 0) (p : A → R → A) → ((a : A) (r : R) → P a → P (p a r))
     → (a : A) (rs : List R) → P a → P (foldl p a rs)
 fold-kept P p h a rs i = fold-keeps (λ a (u : Unit {0}). P a) p (λ u r. u) (λ a u r. h a r) a tt rs i
+
+-- also where a step keeps it of items that pass a test, and all do
+pub fold-kept-of : {A R : Type 0} (P : A → Type 0) (q : R → Bool) (p : A → R → A) → ((a : A) (r : R) → q r ≡ true → P a → P (p a r))
+    → (a : A) (rs : List R) → all (map q rs) ≡ true → P a → P (foldl p a rs)
+unfolding all
+fold-kept-of P q p h a [] e i = i
+fold-kept-of P q p h a (r ∷ rs) e i = fold-kept-of P q p h (p a r) rs (and-right (q r) (all (map q rs)) e) (h a r (and-left (q r) (all (map q rs)) e) i)
 
 -- what a step passes over may be left out
 pub keep-fold : {A R : Type 0} (p : R → Bool) (q : A → R → A) → ((a : A) (r : R) → p r ≡ false → q a r ≡ a)

@@ -1,8 +1,15 @@
 -- Numbers of two and four bytes, little-endian (document 01, "Records").
 -- Assumes nothing.
 use Prim.Native.Nat.{ℕ, _+_, _*_, _/_, _%_}
-use mathlib.Core.List.{List, [], _∷_}
+use mathlib.Core.Bool.{Bool}
+use mathlib.Core.List.{List, [], _∷_, map}
+use lib.Dec.{ltb}
 use lib.ListN.{getD}
+use Rattle.wire.specs.Choose.{all}
+
+-- every number of a list is a byte
+unfoldable pub areBytes : List ℕ → Bool
+areBytes S = all (map (λ b. ltb b 256) S)
 
 -- the number that stands at a place of a list of bytes; past the end stand zeros
 unfoldable pub u16At : List ℕ → ℕ → ℕ
