@@ -1,33 +1,38 @@
--- Accepted totals are a fold, so each law of them is one of a single record: one that adds to a firm's cell is the firm's own, leaves the
--- cell within the limit, and has its cell in the book.
+-- Accepted totals and editions are a fold, so each law of them is one of a single record: one that is taken into a firm's cell is the firm's own,
+-- leaves the cell within the limit, and has its cell in the book.
 use Prim.Native.Nat.{ℕ}
-use mathlib.Core.Bool.{Bool, true, false, cond, _&&_, false≢true}
-use mathlib.Core.List.{List, foldl}
+use mathlib.Core.Bool.{Bool, true, false, cond, not, _&&_, false≢true}
+use mathlib.Core.List.{List, [], _∷_, foldl, map}
 use mathlib.Core.Path.{_≡_, refl, sym, _∙_, fun-ext}
-use lib.Dec.{eqb}
+use native.Mathlib.Omega.{arith}
+use lib.Dec.{leb, eqb}
 use lib.ListN.{getD}
-use borrow.Author.Tests.{eqb-true, eq-eqb}
+use borrow.Author.Tests.{eqb-true, eq-eqb, le-leb, not-false}
 use Rattle.records.specs.Bodies.{restAt}
 use Rattle.records.specs.Fields.{firmFields, sameCode, hasCode}
+use Rattle.wire.specs.Bytes.{areBytes, u32At}
 use Rattle.wire.specs.Choose.{all}
 use Rattle.wire.proofs.Bools.{and-left, and-right, never}
-use Rattle.wire.proofs.Folds.{fold-kept, keep-fold}
-use Rattle.wire.proofs.Choose.{passed, each, every}
-use Rattle.rules.specs.Verdict.{fits}
+use Rattle.wire.proofs.Bytes.{u32-most}
+use Rattle.wire.proofs.Folds.{fold-kept, fold-kept-of, keep-fold}
+use Rattle.wire.proofs.Choose.{Passed, each, every}
+use Rattle.rules.specs.Verdict.{limit, fits}
 use Rattle.lookup.specs.Lookup.{firmStart, firmIs, found, firmFound}
 use Rattle.schedule.specs.Outcome.{good}
 use Rattle.schedule.specs.Check.{checkOf}
 use Rattle.lookup.specs.declared.Layout.{Layout}
 use Rattle.lookup.proofs.Laws.{firm-found}
-use Rattle.activity.specs.Activity.{firmCode, day, totalsOf}
-use Rattle.book.specs.Book.{empty, grown}
+use Rattle.activity.specs.Activity.{isActivity, firmCode, day, totalsOf}
+use Rattle.activity.specs.Correction.{correctionFields}
+use Rattle.cell.specs.Cell.{isWithin, empty, grown}
 use Rattle.filing.specs.Causes.{firmPlaceOf, groupPlaceOf}
-use Rattle.book.specs.Post.{isAdded}
-use Rattle.accepted.specs.Accepted.{isAt, accept, acceptedCells, accepted, isOwn, own}
-use Rattle.book.specs.declared.cells.Cell.{Cell}
+use Rattle.cell.specs.Entry.{corrected, entered, cellCauses}
+use Rattle.book.specs.Post.{isTaken, taking}
+use Rattle.accepted.specs.Accepted.{isAt, accept, acceptedCells, isOwn, own, ofBytes}
+use Rattle.cell.specs.declared.Cell.{Cell}
 use Rattle.book.proofs.Places.{Placed}
 use Rattle.accepted.proofs.Cells.{Same}
-use Rattle.book.proofs.Admitted.{Added, added}
+use Rattle.book.proofs.Taken.{Taken, taken}
 
 -- a record whose cell is that of firm f, group g and day d, by the test and by its parts
 module _ (S : List ℕ) (l : Layout) (f g d : ℕ) (R : List ℕ) where
@@ -46,17 +51,29 @@ module _ (S : List ℕ) (l : Layout) (f g d : ℕ) (R : List ℕ) where
   pub same-at : Same (firmPlaceOf S l R) (groupPlaceOf S l R) (day R) f g d → isAt S l f g d R ≡ true
   same-at s = rw (eq-eqb _ _ (s .firm), eq-eqb _ _ (s .group), eq-eqb _ _ (s .day))
 
-  -- what is so of a record that adds to that cell, c
+  -- what is so of a record that is taken into that cell, c
   record Lands (c : Cell) : Type 0 where
     same : Same (firmPlaceOf S l R) (groupPlaceOf S l R) (day R) f g d
-    passed : Added S l R c
+    passed : Taken S l R c
 
-  lands : (c : Cell) → (isAt S l f g d R && isAdded S l c R) ≡ true → Lands c
+  lands : (c : Cell) → (isAt S l f g d R && isTaken (taking S l c R)) ≡ true → Lands c
   lands c e =
       record {
-        same = at-same (and-left (isAt S l f g d R) (isAdded S l c R) e);
-        passed = added S l R c (and-right (isAt S l f g d R) (isAdded S l c R) e);
+        same = at-same (and-left (isAt S l f g d R) (isTaken (taking S l c R)) e);
+        passed = taken S l R c (and-right (isAt S l f g d R) (isTaken (taking S l c R)) e);
       }
+
+-- what a record that its cell's causes do not refuse makes of a cell is within the limit, as the cell was: activity by 18, a correction by its bytes
+entered-within : (c : Cell) (R : List ℕ) → areBytes R ≡ true → isWithin c ≡ true → Passed (cellCauses c R) → isWithin (entered c R) ≡ true
+unfolding correctionFields
+entered-within c R b q p = go (isActivity R) (p .1 .0)
+  where
+    small : (i : ℕ) → leb (u32At R i) limit ≡ true
+    small i = le-leb (u32At R i) limit (omega (arith, u32-most R i b))
+
+    go : (k : Bool) → (k && not (fits 1 (grown c (totalsOf R) .totals))) ≡ false → isWithin (cond k (grown c (totalsOf R)) (corrected (correctionFields R))) ≡ true
+    go true e = rw (not-false (fits 1 (grown c (totalsOf R) .totals)) e, and-right (fits 1 (c .totals)) (leb (c .edition) limit) q)
+    go false e = rw (every (map (λ (i : ℕ). leb (u32At R i) limit) (16 ∷ 20 ∷ 24 ∷ [])) (small 16, (small 20, (small 24, tt))), small 12)
 
 -- two codes that firm i has are the same
 same-code : (S : List ℕ) (start i : ℕ) (A C : List ℕ) → firmIs S start A i ≡ true → firmIs S start C i ≡ true → sameCode A C ≡ true
@@ -72,7 +89,7 @@ same-code S start i A C a c =
       (same 0 (f .first) (x .1 .0) (y .1 .0), (same 1 (f .second) (x .1 .1 .0) (y .1 .1 .0), (same 2 (f .third) (x .1 .1 .1 .0) (y .1 .1 .1 .0), tt))),
     )
 
--- a record that adds to a firm's totals is the firm's own
+-- a record that is taken into a firm's cell is the firm's own
 lands-own : (S : List ℕ) (l : Layout) (C : List ℕ) (f g d : ℕ) (R : List ℕ) {c : Cell}
     → firmFound S l C ≡ found f
     → Lands S l f g d R c → isOwn C R ≡ true
@@ -86,10 +103,10 @@ module _ (S : List ℕ) {l : Layout} (e : checkOf S ≡ good l) where
   unfolding acceptedCells
   accepted-fold rs f g d = rw e
 
-  -- a record that cannot add to a cell leaves it
+  -- a record that cannot be taken into a cell leaves it
   skipped : (f g d : ℕ) (c : Cell) (R : List ℕ) → (Lands S l f g d R c → ⊥) → accept S l f g d c R ≡ c
   skipped f g d c R n =
-      let no = never (isAt S l f g d R && isAdded S l c R) (λ h. n (lands S l f g d R c h)) in
+      let no = never (isAt S l f g d R && isTaken (taking S l c R)) (λ h. n (lands S l f g d R c h)) in
       rw no
 
   -- a firm's cells are those that its own posts make
@@ -114,14 +131,15 @@ module _ (S : List ℕ) {l : Layout} (e : checkOf S ≡ good l) where
       rs
       refl
 
-  -- no accepted total is above the limit
-  pub accepted-fits : (rs : List (List ℕ)) (f g d : ℕ) → fits 1 (accepted S rs f g d) ≡ true
-  unfolding all
-  accepted-fits rs f g d = rw (accepted, accepted-fold) (fold-kept (λ c. fits 1 (c .totals) ≡ true) (accept S l f g d) step empty rs refl)
+  -- no accepted total and no edition is above the limit
+  pub accepted-within : (rs : List (List ℕ)) → ofBytes rs ≡ true → (f g d : ℕ) → isWithin (acceptedCells S rs f g d) ≡ true
+  unfolding ofBytes all
+  accepted-within rs bytes f g d =
+      rw (accepted-fold rs f g d) (fold-kept-of (λ c. isWithin c ≡ true) areBytes (accept S l f g d) step empty rs bytes refl)
     where
-      step : (c : Cell) (R : List ℕ) → fits 1 (c .totals) ≡ true → fits 1 (accept S l f g d c R .totals) ≡ true
-      step c R q = go (isAt S l f g d R && isAdded S l c R) refl
+      step : (c : Cell) (R : List ℕ) → areBytes R ≡ true → isWithin c ≡ true → isWithin (accept S l f g d c R) ≡ true
+      step c R b q = go (isAt S l f g d R && isTaken (taking S l c R)) refl
         where
-          go : (b : Bool) → (isAt S l f g d R && isAdded S l c R) ≡ b → fits 1 (cond b (grown c (totalsOf R)) c .totals) ≡ true
-          go true h = lands S l f g d R c h .passed .room
+          go : (x : Bool) → (isAt S l f g d R && isTaken (taking S l c R)) ≡ x → isWithin (cond x (entered c R) c) ≡ true
+          go true h = entered-within c R b q (lands S l f g d R c h .passed .cell)
           go false h = q

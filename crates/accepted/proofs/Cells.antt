@@ -11,12 +11,13 @@ use lib.ListN.{length, getD}
 use borrow.Author.Tests.{ltb-true, ltb-false}
 use Rattle.wire.proofs.Lists.{put-in, put-front, put-past}
 use Rattle.book.specs.Book.{width, cellAt, numbersOf, withCell}
-use Rattle.book.specs.declared.cells.Cell.{Cell}
+use Rattle.cell.specs.declared.Cell.{Cell}
 use Rattle.book.proofs.Places.{Placed}
 
 -- cells of equal numbers are equal
-pub cell-eq : {c e : Cell} → c .totals .raw ≡ e .totals .raw → c .totals .score ≡ e .totals .score → c .totals .lots ≡ e .totals .lots → c ≡ e
-cell-eq p q r = λ i. record { totals = record { raw = p i; score = q i; lots = r i } }
+pub cell-eq : {c e : Cell} → c .totals .raw ≡ e .totals .raw → c .totals .score ≡ e .totals .score → c .totals .lots ≡ e .totals .lots → c .edition ≡ e .edition
+    → c ≡ e
+cell-eq p q r s = λ i. record { totals = record { raw = p i; score = q i; lots = r i }; edition = s i }
 
 module _ (B : List ℕ) (i : ℕ) (c : Cell) (room : i + width ≤ length B) where
   -- a cell that was written reads as what was written
@@ -24,7 +25,7 @@ module _ (B : List ℕ) (i : ℕ) (c : Cell) (room : i + width ≤ length B) whe
   cell-same =
       let read = put-in i (numbersOf c) B room in
       let z : i ≡ i + 0 = omega arith in
-      cell-eq (ap (λ (k : ℕ). getD (withCell B i c) k 0) z ∙ read 0 0 (omega arith)) (read 1 0 (omega arith)) (read 2 0 (omega arith))
+      cell-eq (ap (λ (k : ℕ). getD (withCell B i c) k 0) z ∙ read 0 0 (omega arith)) (read 1 0 (omega arith)) (read 2 0 (omega arith)) (read 3 0 (omega arith))
 
   -- a number outside it is as it was
   other-number : (k : ℕ) → (i ≤ k → k < i + width → ⊥) → getD (withCell B i c) k 0 ≡ getD B k 0
@@ -44,7 +45,7 @@ cell-other B m n c room h =
     let read : (k : ℕ) → k < width → getD (withCell B (n * width) c) (m * width + k) 0 ≡ getD B (m * width + k) 0
     = λ k l. other-number B (n * width) c room (m * width + k) (λ a b. omega arith) in
     let z : m * width ≡ m * width + 0 = omega arith in
-    cell-eq (rw z (read 0 (omega arith))) (read 1 (omega arith)) (read 2 (omega arith))
+    cell-eq (rw z (read 0 (omega arith))) (read 1 (omega arith)) (read 2 (omega arith)) (read 3 (omega arith))
 
 -- the high digit of a number in base m
 quotient : (m a b : ℕ) → b < m → (a * m + b) / m ≡ a

@@ -5,7 +5,7 @@ use mathlib.Core.Bool.{Bool, true, false, cond, _&&_, false≢true}
 use mathlib.Core.List.{List}
 use mathlib.Core.Path.{_≡_, refl, sym, _∙_, ap, fun-ext}
 use native.Mathlib.Omega.{arith}
-use lib.Dec.{eqb, ltb}
+use lib.Dec.{ltb}
 use lib.ListN.{length, getD, drop}
 use borrow.Author.Tests.{ltb-true, lt-ltb}
 use Rattle.wire.specs.Choose.{within}
@@ -13,23 +13,24 @@ use Rattle.wire.specs.Lists.{table, over}
 use Rattle.wire.proofs.Bools.{and-left, and-right, range, in-range}
 use Rattle.wire.proofs.Folds.{fold-keeps, fold-kept}
 use Rattle.wire.proofs.Lists.{length-over, length-put, drop-put, length-table, table-over, table-behind}
-use Rattle.rules.specs.Month.{DailyTotals}
 use Rattle.schedule.specs.Outcome.{Outcome, refused, good, follow, given}
 use Rattle.schedule.specs.Check.{checkOf}
 use Rattle.lookup.specs.declared.Layout.{Layout}
 use Rattle.schedule.proofs.Good.{refused-good}
-use Rattle.activity.specs.Activity.{day, totalsOf}
-use Rattle.book.specs.Book.{width, size, index, cellAt, numbersOf, withCell, empty, grown, cells, checkBook, openAnswer, openBook}
-use Rattle.filing.specs.Causes.{firmPlaceOf, groupPlaceOf, isCountedRecord}
-use Rattle.book.specs.Post.{indexOf, postCause, isAdded, outside, counted, answerUnder, bookUnder, postAnswer, postBook}
+use Rattle.activity.specs.Activity.{day}
+use Rattle.cell.specs.Cell.{empty, cellTotals}
+use Rattle.book.specs.Book.{width, size, index, cellAt, numbersOf, withCell, cells, checkBook, openAnswer, openBook}
+use Rattle.filing.specs.Causes.{firmPlaceOf, groupPlaceOf}
+use Rattle.cell.specs.Entry.{entered}
+use Rattle.book.specs.Post.{Effect, outside, counted, isTaken, indexOf, taking, answerUnder, bookUnder, postAnswer, postBook}
 use Rattle.accepted.specs.Accepted.{isAt, accept, acceptedCells, own, posted}
-use Rattle.book.specs.declared.cells.Cell.{Cell}
+use Rattle.cell.specs.declared.Cell.{Cell}
 use Rattle.accepted.specs.Laws.{Laws}
 use Rattle.book.proofs.Checked.{by-room, book-good}
 use Rattle.book.proofs.Places.{Placed, inside}
 use Rattle.accepted.proofs.Cells.{cell-eq, cell-same, cell-other, same-cell}
-use Rattle.book.proofs.Admitted.{admitted-inside, added}
-use Rattle.accepted.proofs.Accepted.{at-same, same-at, accepted-fold, accepted-own, accepted-none, accepted-fits}
+use Rattle.book.proofs.Taken.{admitted-inside, taken}
+use Rattle.accepted.proofs.Accepted.{at-same, same-at, accepted-fold, accepted-own, accepted-none, accepted-within}
 
 -- a book that is as long as it was, and the same from n on
 record Kept (n : ℕ) (B B′ : List ℕ) : Type 0 where
@@ -60,9 +61,9 @@ module _ (S : List ℕ) {l : Layout} (e : checkOf S ≡ good l) where
   room : (B : List ℕ) → openAnswer S B ≡ good tt → size l ≤ length B
   room B o = by-room S (length B) e (λ c. follow c (λ l. good tt) ≡ good tt → size l ≤ length B) (λ q. absurd (refused-good q)) (λ h q. h) o
 
-  -- a record that is added has its cell inside the book
-  added-inside : (c : Cell) (R : List ℕ) → isAdded S l c R ≡ true → indexOf S l R + width ≤ size l
-  added-inside c R h = admitted-inside S l R (added S l R c h .passes)
+  -- a record that is taken has its cell inside the book
+  taken-inside : (c : Cell) (R : List ℕ) → isTaken (taking S l c R) ≡ true → indexOf S l R + width ≤ size l
+  taken-inside c R h = admitted-inside S l R (taken S l R c h .passes)
 
   -- open keeps the book past its cells
   kept-open : (B : List ℕ) → Kept (size l) B (openBook S B)
@@ -70,13 +71,13 @@ module _ (S : List ℕ) {l : Layout} (e : checkOf S ≡ good l) where
 
   -- so does a post to a book with room
   kept-in : (B R : List ℕ) → size l ≤ length B → Kept (size l) B (bookUnder S B R l)
-  kept-in B R h = go (isAdded S l c R) refl
+  kept-in B R h = go (isTaken (taking S l c R)) refl
     where
       c : Cell
       c = cellAt B (indexOf S l R)
 
-      go : (b : Bool) → isAdded S l c R ≡ b → Kept (size l) B (cond b (withCell B (indexOf S l R) (grown c (totalsOf R))) B)
-      go true a = kept-cell (size l) B (indexOf S l R) (grown c (totalsOf R)) (added-inside c R a) h
+      go : (b : Bool) → isTaken (taking S l c R) ≡ b → Kept (size l) B (cond b (withCell B (indexOf S l R) (entered c R)) B)
+      go true a = kept-cell (size l) B (indexOf S l R) (entered c R) (taken-inside c R a) h
       go false a = kept-same
 
   -- a post to any book
@@ -99,10 +100,10 @@ module _ (S : List ℕ) {l : Layout} (e : checkOf S ≡ good l) where
     post-here B R h at =
         let s = at-same S l f g d R at in
         let there : indexOf S l R ≡ place = rw (s .firm, s .group, s .day) in
-        rw (there, at) (go (isAdded S l (cellAt B place) R))
+        rw (there, at) (go (isTaken (taking S l (cellAt B place) R)))
       where
         more : Cell
-        more = grown (cellAt B place) (totalsOf R)
+        more = entered (cellAt B place) R
 
         go : (b : Bool) → cellAt (cond b (withCell B place more) B) place ≡ cond b more (cellAt B place)
         go true = cell-same B place more (omega (arith, inside l f g d listed placed))
@@ -110,20 +111,20 @@ module _ (S : List ℕ) {l : Layout} (e : checkOf S ≡ good l) where
 
     -- after a post of any other, what it was
     post-other : (B R : List ℕ) → size l ≤ length B → isAt S l f g d R ≡ false → cellAt (bookUnder S B R l) place ≡ cellAt B place
-    post-other B R h at = go (isAdded S l c R) refl
+    post-other B R h at = go (isTaken (taking S l c R)) refl
       where
         c : Cell
         c = cellAt B (indexOf S l R)
 
-        go : (b : Bool) → isAdded S l c R ≡ b
-            → cellAt (cond b (withCell B (indexOf S l R) (grown c (totalsOf R))) B) place ≡ cellAt B place
+        go : (b : Bool) → isTaken (taking S l c R) ≡ b
+            → cellAt (cond b (withCell B (indexOf S l R) (entered c R)) B) place ≡ cellAt B place
         go true a =
-            let own = added S l R c a .passes .placed in
+            let own = taken S l R c a .passes .placed in
             cell-other B
             ((f * l .groups + g) * 31 + d - 1)
             ((firmPlaceOf S l R * l .groups + groupPlaceOf S l R) * 31 + day R - 1)
-            (grown c (totalsOf R))
-            (omega (arith, added-inside c R a))
+            (entered c R)
+            (omega (arith, taken-inside c R a))
             (λ q. let s = same-cell (l .groups) (firmPlaceOf S l R) (groupPlaceOf S l R) (day R) f g d own placed (sym q) in
             false≢true (sym at ∙ same-at S l f g d R s))
         go false a = refl
@@ -151,7 +152,7 @@ module _ (S : List ℕ) {l : Layout} (e : checkOf S ≡ good l) where
         rw (book-good S (length B) e h)
         (record {
           long = rw (kept-clear (size l) B h .long) h;
-          cell = cell-eq (zero place (omega arith)) (zero (place + 1) (omega arith)) (zero (place + 2) (omega arith));
+          cell = cell-eq (zero place (omega arith)) (zero (place + 1) (omega arith)) (zero (place + 2) (omega arith)) (zero (place + 3) (omega arith));
         })
       where
         zero : (i : ℕ) → i < place + width → getD (over (table (size l) (λ i. 0)) B) i 0 ≡ 0
@@ -180,20 +181,18 @@ module _ (S : List ℕ) {l : Layout} (e : checkOf S ≡ good l) where
           sym (accepted-none S e rs f g d
           (λ p. false≢true (sym t ∙ rw (lt-ltb _ _ (p .group), in-range 1 31 d (p .first) (p .last)))))
 
--- where the answer is not "counted", nothing was added
-not-counted : (x y : Bool) (n : ℕ) (B w : List ℕ) → (cond y (good (cond x counted outside)) (refused n 0) ≡ good counted → ⊥) → cond (x && y) w B ≡ B
-not-counted true true n B w h = absurd (h refl)
-not-counted true false n B w h = refl
-not-counted false y n B w h = refl
+-- an answer that is not "counted" leaves the book
+not-counted : (a : Outcome Effect) (B w : List ℕ) → (a ≡ good counted → ⊥) → cond (isTaken a) w B ≡ B
+not-counted (refused n o) B w h = refl
+not-counted (good outside) B w h = refl
+not-counted (good counted) B w h = absurd (h refl)
 
 unchanged : (S B R : List ℕ) → (postAnswer S B R ≡ good counted → ⊥) → postBook S B R ≡ B
 unchanged S B R = by (checkBook S (length B))
   where
     by : (c : Outcome Layout) → (follow c (answerUnder S B R) ≡ good counted → ⊥) → given c B (bookUnder S B R) ≡ B
     by (refused n o) h = refl
-    by (good l) h =
-        let n = postCause S l (cellAt B (indexOf S l R)) R in
-        not-counted (isCountedRecord S l R) (eqb n 0) n B _ h
+    by (good l) h = not-counted (answerUnder S B R l) B _ h
 
 -- every law of specs/Laws.antt
 pub laws : (S : List ℕ) {l : Layout} → checkOf S ≡ good l → Laws S l
@@ -201,12 +200,9 @@ laws S {l} e =
     record {
       unchanged = unchanged S;
       held = λ B rs f o listed. held-cells S e B rs f (room S e B o) listed;
-      held-totals = λ B rs f o listed. ap totals (held-cells S e B rs f (room S e B o) listed);
+      held-totals = λ B rs f o listed. ap cellTotals (held-cells S e B rs f (room S e B o) listed);
       beyond = λ B rs. kept-posted S e B rs .rest;
       kept = λ B rs. kept-posted S e B rs .long;
-      limited = accepted-fits S e;
-      own-only = λ C f ps qs c s. ap totals (sym (accepted-own S e C f ps c) ∙ ap (λ rs. acceptedCells S rs f) s ∙ accepted-own S e C f qs c);
+      limited = accepted-within S e;
+      own-only = λ C f ps qs c s. sym (accepted-own S e C f ps c) ∙ ap (λ rs. acceptedCells S rs f) s ∙ accepted-own S e C f qs c;
     }
-  where
-    totals : ((g d : ℕ) → Cell) → DailyTotals
-    totals c g d = c g d .totals

@@ -1,10 +1,11 @@
--- Records for computed examples, as bytes (document 01, "Records").
+-- Records for computed examples, as bytes (document 01, "Records", and document 02, 2.3).
 -- Assumes nothing.
 use Prim.Native.Nat.{ℕ}
 use mathlib.Core.List.{List, [], _∷_, _++_}
 use Rattle.wire.specs.Bytes.{u16Bytes, u32Bytes}
 use Rattle.records.specs.Bodies.{headKind, groupKind, firmKind, headSize, leastGroup, firmSize}
 use Rattle.activity.specs.Activity.{activityKind, activityLength}
+use Rattle.activity.specs.Correction.{correctionKind, correctionLength}
 
 -- a head: October 2019, with these days not in effect
 abbrev pub head : (closed : ℕ) → List ℕ
@@ -28,3 +29,13 @@ abbrev pub activity : (first second day contract : ℕ) → (new modified cancel
 activity first second day contract new modified cancelled fakFok requests reports minimum lots =
     u16Bytes activityLength ++ u16Bytes activityKind ++ ABC ++ (day ∷ first ∷ second ∷ []) ++ u16Bytes contract
     ++ u32Bytes new ++ u32Bytes modified ++ u32Bytes cancelled ++ u32Bytes fakFok ++ u32Bytes requests ++ u32Bytes reports ++ u32Bytes minimum ++ u32Bytes lots
+
+-- a correction of its cell, with the two fields that must be zero
+abbrev pub correctionWith : (zero16 zero32 : ℕ) → (first second day edition raw score lots : ℕ) → List ℕ
+correctionWith zero16 zero32 first second day edition raw score lots =
+    u16Bytes correctionLength ++ u16Bytes correctionKind ++ ABC ++ (day ∷ first ∷ second ∷ []) ++ u16Bytes zero16
+    ++ u32Bytes edition ++ u32Bytes raw ++ u32Bytes score ++ u32Bytes lots ++ u32Bytes zero32
+
+-- a correction of its cell
+abbrev pub correction : (first second day edition raw score lots : ℕ) → List ℕ
+correction = correctionWith 0 0

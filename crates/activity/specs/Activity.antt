@@ -1,10 +1,13 @@
 -- An activity record's fields, and what it adds to its cell (document 01, "Records", kind 4, and "The day's verdict"; document 02, 2.2; the Program,
--- section 2). R is the whole record.
+-- section 2). R is the whole record. Where a correction has its firm, day and group (document 02, 2.3) is said here too.
 -- Assumes nothing.
 use Prim.Native.Nat.{ℕ, _+_, _*_}
+use mathlib.Core.Bool.{Bool}
 use mathlib.Core.List.{List, [], _∷_}
+use lib.Dec.{eqb}
 use lib.ListN.{getD, take, drop}
 use Rattle.wire.specs.Bytes.{u16At, u32At}
+use Rattle.records.specs.Bodies.{kindAt}
 use Rattle.rules.specs.declared.Totals.{Totals}
 
 -- Records: kind 4, activity, 44 bytes
@@ -14,15 +17,18 @@ activityKind = 4
 abbrev pub activityLength : ℕ
 activityLength = 44
 
--- Records, kind 4: firm at 4
+abbrev pub isActivity : (R : List ℕ) → Bool
+isActivity R = eqb (kindAt R 0) activityKind
+
+-- Records, kind 4, and 2.3, kind 8: firm at 4
 abbrev pub firmCode : (R : List ℕ) → List ℕ
 firmCode R = take 3 (drop 4 R)
 
--- Records, kind 4: day u8 at 7
+-- Records, kind 4, and 2.3, kind 8: day u8 at 7
 abbrev pub day : (R : List ℕ) → ℕ
 day R = getD R 7 0
 
--- Records, kind 4: group at 8, its first letter
+-- Records, kind 4, and 2.3, kind 8: group at 8, its first letter
 abbrev pub groupFirst : (R : List ℕ) → ℕ
 groupFirst R = getD R 8 0
 

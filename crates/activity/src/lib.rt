@@ -1,13 +1,22 @@
-// The activity record: its kind, its length, where its fields stand, and what it adds to its cell.
+// The posted records. Here the activity record: its kind, its length, where its fields stand, and what it adds to its cell.
+mod correction;
+
+pub use correction::CORRECTION_LENGTH;
+pub use correction::Correction;
+pub use correction::correction_fields;
+pub use correction::is_correction;
+pub use correction::is_sound;
 use rules::Totals;
+use wire::u16_at;
 use wire::u32_at;
 ghost use mathlib.Core.Path.{_≡_};
-ghost use Rattle.activity.specs.Activity.{totalsOf};
+ghost use Rattle.activity.specs.Activity.{isActivity, totalsOf};
 
-pub const ACTIVITY_KIND: u16 = 4;
+const ACTIVITY_KIND: u16 = 4;
 
 pub const ACTIVITY_LENGTH: usize = 44;
 
+// A correction has its firm, day and group at the same places.
 pub const FIRM_CODE: usize = 4;
 
 pub const DAY: usize = 7;
@@ -34,7 +43,14 @@ const MINIMUM_QUANTITY: usize = 36;
 
 const LOTS: usize = 40;
 
-// What a record adds to its cell.
+// The record's kind is that of activity.
+pub fn is_activity(record: &[u8]) -> bool
+    ensures { λ r. ⌜ r ≡ isActivity (now («record» .entry)) ⌝ }
+{
+    u16_at(record, 2) == ACTIVITY_KIND
+}
+
+// What an activity record adds to its cell.
 pub fn totals_of(record: &[u8]) -> Totals
     ensures { λ r. ⌜ r ≡ totalsOf (now («record» .entry)) ⌝ }
 {

@@ -1,62 +1,64 @@
--- From how the schedule takes a record, and what adding to its cell came to, to the post's answer and the book after it: the table of
--- causes is one after another, so the first that refuses decides, and 18 is asked where none did.
+-- From how the schedule takes a record, and what entering it into its cell came to, to the post's answer and the book after it: what is asked
+-- stands one after another, so the first that refuses decides, and the cell is asked where none did and the record is counted.
 use Prim.Native.Nat.{ℕ}
-use mathlib.Core.Bool.{Bool, true, false, cond, not, and-false}
+use mathlib.Core.Bool.{Bool, true, false, cond}
 use mathlib.Core.List.{List}
-use mathlib.Core.Path.{_≡_, refl, _∙_}
+use mathlib.Core.Path.{_≡_, refl, sym}
 use lib.Dec.{eqb}
 use lib.ListN.{length}
 use borrow.Author.Tests.{ne-eqb}
 use Rattle.wire.specs.Choose.{choose}
-use Rattle.wire.proofs.Choose.{passed, choose-first, choose-second}
-use Rattle.rules.specs.Verdict.{fits}
-use Rattle.schedule.specs.Outcome.{refused, good}
+use Rattle.schedule.specs.Outcome.{refused, good, asked}
+use Rattle.schedule.proofs.Good.{refused-good}
 use Rattle.lookup.specs.declared.Layout.{Layout}
-use Rattle.activity.specs.Activity.{totalsOf}
-use Rattle.book.specs.Book.{cellAt, withCell, grown, checkBook}
+use Rattle.book.specs.Book.{cellAt, withCell, checkBook}
 use Rattle.filing.specs.Causes.{recordCauses}
 use Rattle.filing.proofs.Told.{Stopped, Passing}
-use Rattle.book.specs.Post.{indexOf, limitCause, postCause, counted, AddIs, PostIs}
-use Rattle.book.specs.declared.cells.Cell.{Cell}
+use Rattle.cell.specs.Entry.{cellCauses, entered, entryOf}
+use Rattle.book.specs.Post.{indexOf, outside, counted, taking, EnterIs, PostIs}
+use Rattle.cell.specs.declared.Cell.{Cell}
 use Rattle.book.specs.declared.posting.Posted.{Posted}
 use Rattle.book.specs.declared.posting.Posted.the-variants as posted
 
-module _ (S : List ℕ) (l : Layout) (R : List ℕ) where
-  -- 18 decides where none of 11 to 17 refuses the record
-  cause-limit : (c : Cell) → choose (recordCauses S l R) 0 ≡ 0 → postCause S l c R ≡ choose (limitCause S l c R) 0
-  unfolding postCause
-  cause-limit c e = choose-second (recordCauses S l R) (limitCause S l c R) (passed (recordCauses S l R) refl e)
-
 module _ (S B R : List ℕ) {l : Layout} (e : checkBook S (length B) ≡ good l) where
+  abbrev c : Cell
+  c = cellAt B (indexOf S l R)
+
   pub stopped : {n : ℕ} → Stopped S l R (recordCauses S l R) n → PostIs S B R (posted.Refused n 0) B
-  unfolding postCause
+  unfolding taking
   stopped {n} h =
-      let c = cellAt B (indexOf S l R) in
-      let q : postCause S l c R ≡ n = choose-first (recordCauses S l R) (limitCause S l c R) (h .first) (h .some) in
-      record { answer = rw (e, q, ne-eqb n 0 (h .some)); book = rw (e, q, ne-eqb n 0 (h .some), and-false) }
+      let q : taking S l c R ≡ refused n 0 = rw (h .first, ne-eqb n 0 (h .some)) refl in
+      record { answer = rw (e, q); book = rw (e, q) }
 
   pub passed-over : Passing S l R (recordCauses S l R) false → PostIs S B R posted.Outside B
-  unfolding choose
+  unfolding taking
   passed-over h =
-      let q = cause-limit S l R (cellAt B (indexOf S l R)) (h .none) in
-      record { answer = rw (e, q, h .counted); book = rw (e, h .counted) }
+      let q : taking S l c R ≡ good outside = rw (h .none, h .counted) refl in
+      record { answer = rw (e, q); book = rw (e, q) }
 
-  -- what adding to the cell came to is what the post comes to
-  pub added : {i : ℕ} {r : Posted} {B′ : List ℕ} → Passing S l R (recordCauses S l R) true → i ≡ indexOf S l R → AddIs B i (totalsOf R) r B′ → PostIs S B R r B′
-  unfolding choose
-  added {i} h p a =
-      let c = cellAt B (indexOf S l R) in
-      let more = grown c (totalsOf R) in
-      let q = cause-limit S l R c (h .none) in
-      record {
-        answer = rw p at (a .answer) ∙ rw (e, q, h .counted) (answer-limit (fits 1 (more .totals)));
-        book = rw p at (a .book) ∙ rw (e, q, h .counted) (book-limit (fits 1 (more .totals)) (withCell B (indexOf S l R) more));
-      }
+  -- what entering the record into its cell came to is what the post comes to
+  pub goes-in : {i : ℕ} {r : Posted} {B′ : List ℕ} → Passing S l R (recordCauses S l R) true → i ≡ indexOf S l R → EnterIs B i R r B′ → PostIs S B R r B′
+  unfolding taking
+  goes-in h p a =
+      let q : taking S l c R ≡ asked (cellCauses c R) (good counted) = rw (h .none, h .counted) refl in
+      record { answer = rw (e, q) (rw p at (a .answer)); book = rw (e, q) (rw p at (a .book)) }
+
+-- what an entry into the cell at i tells: the cell's causes refuse the record, or the cell becomes what the record makes of it
+module _ (B : List ℕ) (i : ℕ) (R : List ℕ) where
+  abbrev cause : ℕ
+  cause = choose (cellCauses (cellAt B i) R) 0
+
+  pub entry-refused : {n : ℕ} → refused n 0 ≡ entryOf (cellAt B i) R → EnterIs B i R (posted.Refused n 0) B
+  entry-refused {n} = go (eqb cause 0) refl
     where
-      answer-limit : (b : Bool) → cond b (good counted) (refused 18 0) ≡ cond (eqb (cond (not b) 18 0) 0) (good counted) (refused (cond (not b) 18 0) 0)
-      answer-limit true = refl
-      answer-limit false = refl
+      go : (b : Bool) → eqb cause 0 ≡ b → refused n 0 ≡ cond b (good (entered (cellAt B i) R)) (refused cause 0) → EnterIs B i R (posted.Refused n 0) B
+      go true t e = absurd (refused-good e)
+      go false t e = record { answer = rw t cc; book = rw t }
 
-      book-limit : (b : Bool) (w : List ℕ) → cond b w B ≡ cond (eqb (cond (not b) 18 0) 0) w B
-      book-limit true w = refl
-      book-limit false w = refl
+  pub entry-entered : {new : Cell} {B′ : List ℕ} → good new ≡ entryOf (cellAt B i) R → B′ ≡ withCell B i new → EnterIs B i R posted.Counted B′
+  entry-entered {new} {B′} = go (eqb cause 0) refl
+    where
+      go : (b : Bool) → eqb cause 0 ≡ b → good new ≡ cond b (good (entered (cellAt B i) R)) (refused cause 0) → B′ ≡ withCell B i new
+          → EnterIs B i R posted.Counted B′
+      go true t e w = let same : new ≡ entered (cellAt B i) R = cc in record { answer = rw t; book = rw (t, ← same) w }
+      go false t e w = absurd (refused-good (sym e))

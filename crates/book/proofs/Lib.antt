@@ -1,4 +1,4 @@
 pub mod Checked
 pub mod Places
-pub mod Admitted
 pub mod Answers
+pub mod Taken

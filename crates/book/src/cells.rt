@@ -1,4 +1,6 @@
-// What a cell holds, where the cells stand in the book, and how many numbers it needs.
+// Where the cells stand in the book, and how many numbers it needs.
+use cell::Cell;
+use cell::EMPTY;
 use lookup::Layout;
 use rules::Totals;
 use schedule::Checked;
@@ -7,15 +9,10 @@ ghost use mathlib.Core.Path.{_≡_};
 ghost use Prim.Native.Nat.{_+_, _^_, _≤_, _<_};
 ghost use lib.ListN.{length, getD};
 ghost use Rattle.schedule.specs.Check.{checkMeaning};
-ghost use Rattle.book.specs.Book.{width, size, index, cellAt, withCell, totalsIn, checkBook};
-
-// What the book keeps of one firm, one group and one day.
-pub struct Cell {
-    pub totals: Totals,
-}
+ghost use Rattle.book.specs.Book.{width, size, index, cellAt, withCell, cells, checkBook};
 
 // How many numbers a cell has.
-const WIDTH: usize = 3;
+const WIDTH: usize = 4;
 
 // How many numbers a firm has in one group, for 31 days.
 pub const PER_FIRM_GROUP: usize = 31 * WIDTH;
@@ -53,22 +50,20 @@ pub(crate) fn cell_at(book: &[u64], at: usize) -> Cell
         score: number_at(book, at + 1),
         lots: number_at(book, at + 2),
     };
-    Cell { totals }
+    Cell {
+        totals,
+        edition: number_at(book, at + 3),
+    }
 }
 
-// The totals of a firm's cell: none past the groups, and on a day outside 1 to 31.
-pub fn totals_in(book: &[u64], groups: u8, firm: u8, group: u8, day: u8) -> Totals
-    ensures { λ r. ⌜ r ≡ totalsIn groups (now (book .entry)) firm group day ⌝ }
+// A firm's cell: empty past the groups, and on a day outside 1 to 31.
+pub fn cell_in(book: &[u64], groups: u8, firm: u8, group: u8, day: u8) -> Cell
+    ensures { λ r. ⌜ r ≡ cells groups (now (book .entry)) firm group day ⌝ }
 {
     if !((group < groups) & ((1 <= day) & (day <= 31))) {
-        return Totals {
-            raw: 0,
-            score: 0,
-            lots: 0,
-        };
+        return EMPTY;
     }
-    let cell = cell_at(book, cell_index(groups, firm as usize, group as usize, day));
-    cell.totals
+    cell_at(book, cell_index(groups, firm as usize, group as usize, day))
 }
 
 // Stores a cell at a place.
@@ -80,6 +75,7 @@ pub(crate) fn store_cell(book: &mut [u64], at: usize, cell: Cell)
     book[at] = t.raw;
     book[at + 1] = t.score;
     book[at + 2] = t.lots;
+    book[at + 3] = cell.edition;
 }
 
 // The schedule and the size of a book: refusals 1 to 8, or what the schedule holds.

@@ -11,7 +11,7 @@ pub enum Opened {
     Done,
 }
 
-// Opens a book for the month of a schedule: every total of every cell is zero, and what the book has beyond them stays.
+// Opens a book for the month of a schedule: every number of every cell is zero, and what the book has beyond them stays.
 pub fn open(schedule: &[u8], book: &mut [u64]) -> Opened
     ensures { λ r. ⌜ OpenIs (now (schedule .entry)) (now (book .entry)) r (now (book .exit)) ⌝ }
 {

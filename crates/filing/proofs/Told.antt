@@ -1,14 +1,34 @@
 -- How a record is taken goes by the first cause that refuses it and by whether it is counted, and tells both.
 use Prim.Native.Nat.{ℕ}
-use mathlib.Core.Bool.{Bool, true, false, cond}
+use mathlib.Core.Bool.{Bool, true, false, cond, not, _&&_}
 use mathlib.Core.List.{List}
-use mathlib.Core.Path.{_≡_, refl}
+use mathlib.Core.Path.{_≡_, refl, sym, ap, _∙_}
 use lib.Dec.{eqb}
 use borrow.Author.Tests.{eqb-true, eqb-false, ne-eqb}
 use Rattle.wire.specs.Choose.{choose}
+use Rattle.contracts.specs.Counted.{counted, contractListed, contractCounted, statusOf}
+use Rattle.contracts.proofs.Status.{saysListed, saysCounted, status-listed, status-counted}
 use Rattle.lookup.specs.declared.Layout.{Layout}
+use Rattle.activity.specs.Activity.{isActivity, contractOf}
 use Rattle.filing.specs.Causes.{firmPlaceOf, groupPlaceOf, isCountedRecord}
-use Rattle.filing.specs.Filing.{Filing, refusedBy, isOutside, countedIn, filingBy}
+use Rattle.filing.specs.Filing.{Filing, refusedBy, isOutside, countedIn, contractTaken, filingBy}
+
+-- how a group takes a record's contract tells whether 17 refuses it and whether it is counted
+module _ (G R : List ℕ) where
+  pub taken-listed : not (saysListed (contractTaken G R)) ≡ (isActivity R && not (contractListed G (contractOf R)))
+  taken-listed = go (isActivity R)
+    where
+      go : (b : Bool) → not (saysListed (cond b (statusOf G (contractOf R)) counted)) ≡ (b && not (contractListed G (contractOf R)))
+      go true = ap not (status-listed G (contractOf R))
+      go false = refl
+
+  pub taken-counted : saysListed (contractTaken G R) ≡ true → saysCounted (contractTaken G R) ≡ cond (isActivity R) (contractCounted G (contractOf R)) true
+  taken-counted = go (isActivity R)
+    where
+      go : (b : Bool) → saysListed (cond b (statusOf G (contractOf R)) counted) ≡ true
+          → saysCounted (cond b (statusOf G (contractOf R)) counted) ≡ cond b (contractCounted G (contractOf R)) true
+      go true e = status-counted G (contractOf R) (sym (status-listed G (contractOf R)) ∙ e)
+      go false e = refl
 
 module _ (S : List ℕ) (l : Layout) (R : List ℕ) (cs : List (Bool × ℕ)) where
   pub is-refused : {n : ℕ} → choose cs 0 ≡ n → (n ≡ 0 → ⊥) → refusedBy n ≡ filingBy S l R cs

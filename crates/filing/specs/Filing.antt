@@ -1,4 +1,5 @@
--- How a schedule takes an activity record (document 01, "The book and its calls", post). S is the schedule, l what it holds, R the record.
+-- How a schedule takes a posted record (document 01, "The book and its calls", post, and document 02, 2.3). S is the schedule, l what it holds, R the
+-- record.
 -- Assumes nothing.
 use Prim.Native.Nat.{ℕ}
 use mathlib.Core.Bool.{Bool, cond}
@@ -6,8 +7,10 @@ use mathlib.Core.List.{List}
 use mathlib.Core.Path.{_≡_}
 use lib.Dec.{eqb}
 use Rattle.wire.specs.Choose.{choose}
+use Rattle.contracts.specs.Counted.{Taken, counted, statusOf}
 use Rattle.lookup.specs.Lookup.{groupStart}
 use Rattle.lookup.specs.declared.Layout.{Layout}
+use Rattle.activity.specs.Activity.{isActivity, contractOf}
 use Rattle.filing.specs.Causes.{firmPlaceOf, groupPlaceOf, recordCauses, isCountedRecord}
 use Rattle.filing.specs.declared.Filed.{Filed}
 use Rattle.filing.specs.declared.Filed.the-variants as filed
@@ -17,6 +20,10 @@ pub data Filing : Type 0 where
   refusedBy : (number : ℕ) → Filing
   isOutside : Filing
   countedIn : (firm group : ℕ) → Filing
+
+-- how a group of the body G takes the record's contract; a correction has none, and is counted by its day
+abbrev pub contractTaken : (G R : List ℕ) → Taken
+contractTaken G R = cond (isActivity R) (statusOf G (contractOf R)) counted
 
 -- what the answer means
 abbrev pub filedMeaning : Filed → Filing
@@ -31,7 +38,7 @@ module _ (S : List ℕ) (l : Layout) (R : List ℕ) where
       let n = choose causes 0 in
       cond (eqb n 0) (cond (isCountedRecord S l R) (countedIn (firmPlaceOf S l R) (groupPlaceOf S l R)) isOutside) (refusedBy n)
 
-  -- Numbers of refusal, 11 to 17
+  -- Numbers of refusal, 11 to 17 with 31 after 13
   abbrev pub filingOf : Filing
   filingOf = filingBy (recordCauses S l R)
 

@@ -1,11 +1,15 @@
-// How the schedule takes an activity record: refused, outside, or counted in the cell of a firm and a group.
-use activity::ACTIVITY_KIND;
+// How the schedule takes a posted record, activity or a correction: refused, outside, or counted in the cell of a firm and a group.
 use activity::ACTIVITY_LENGTH;
 use activity::CONTRACT;
+use activity::CORRECTION_LENGTH;
 use activity::DAY;
 use activity::FIRM_CODE;
 use activity::GROUP_FIRST;
 use activity::GROUP_SECOND;
+use activity::correction_fields;
+use activity::is_activity;
+use activity::is_correction;
+use activity::is_sound;
 use calendar::days_in;
 use calendar::in_effect;
 use contracts::Status;
@@ -23,15 +27,26 @@ ghost use Prim.Native.Nat.{_≤_};
 ghost use lib.ListN.{length, drop};
 ghost use Rattle.wire.specs.Choose.{choose};
 ghost use Rattle.records.specs.Bodies.{bodyAt};
-ghost use Rattle.contracts.specs.Counted.{statusMeaning, statusOf};
-ghost use Rattle.filing.specs.Causes.{formCauses, listCauses};
-ghost use Rattle.filing.specs.Filing.{filedMeaning, filingBy, filingOf, FoundIs};
+ghost use Rattle.contracts.specs.Counted.{statusMeaning};
+ghost use Rattle.filing.specs.Causes.{dueLength, formCauses, fieldCauses, listCauses};
+ghost use Rattle.filing.specs.Filing.{contractTaken, filedMeaning, filingBy, filingOf, FoundIs};
 
 // A refusal's number, or outside, or the places of the firm and the group whose cell the record is counted in.
 pub enum Filed {
     Refused(u8),
     Outside,
     At { firm: usize, group: usize },
+}
+
+// The length of a record of this one's kind.
+fn due_length(record: &[u8]) -> usize
+    ensures { λ r. ⌜ r ≡ dueLength (now («record» .entry)) ⌝ }
+{
+    if is_activity(record) {
+        ACTIVITY_LENGTH
+    } else {
+        CORRECTION_LENGTH
+    }
 }
 
 // The first of 11 to 13 that refuses a record, 0 where none does.
@@ -41,20 +56,35 @@ fn form_cause(record: &[u8]) -> u8
     if record.len() < 4 {
         return 11;
     }
-    if u16_at(record, 2) != ACTIVITY_KIND {
+    if !(is_activity(record) | is_correction(record)) {
         return 12;
     }
-    if (u16_at(record, 0) as usize == ACTIVITY_LENGTH) & (record.len() == ACTIVITY_LENGTH) {
+    let due = due_length(record);
+    if (u16_at(record, 0) as usize == due) & (record.len() == due) {
         return 0;
     }
     13
 }
 
-// How the group whose record stands at a place takes a contract.
-fn status_at(schedule: &[u8], at: usize, contract: u16) -> Status
-    ensures { λ r. ⌜ statusMeaning r ≡ statusOf (bodyAt (now (schedule .entry)) at) contract ⌝ }
+// 31 where it refuses a record, else 0.
+fn field_cause(record: &[u8]) -> u8
+    ensures { λ r. ⌜ r ≡ choose (fieldCauses (now («record» .entry))) 0 ⌝ }
 {
-    contract_status(body_at(schedule, at), contract)
+    if is_correction(record) & !is_sound(correction_fields(record)) {
+        31
+    } else {
+        0
+    }
+}
+
+// How the group whose record stands at a place takes a posted record's contract.
+fn status_at(schedule: &[u8], at: usize, record: &[u8]) -> Status
+    ensures { λ r. ⌜ statusMeaning r ≡ contractTaken (bodyAt (now (schedule .entry)) at) (now («record» .entry)) ⌝ }
+{
+    if is_activity(record) {
+        return contract_status(body_at(schedule, at), u16_at(record, CONTRACT));
+    }
+    Status::Counted
 }
 
 // Refusals 16 and 17, and whether the record is counted, where its firm and its group were found.
@@ -73,7 +103,7 @@ fn file_found(
     if !((1 <= day) & (day <= days_in(l.month))) {
         return Filed::Refused(16);
     }
-    match status_at(schedule, offset, u16_at(record, CONTRACT)) {
+    match status_at(schedule, offset, record) {
         Status::Unlisted => Filed::Refused(17),
         Status::Listed => Filed::Outside,
         Status::Counted => {
@@ -111,13 +141,17 @@ fn file_listed(schedule: &[u8], l: Layout, record: &[u8]) -> Filed
     }
 }
 
-// How the schedule takes a record: refusals 11 to 17, outside, or where its cell is.
+// How the schedule takes a record: refusals 11 to 17 with 31 after 13, outside, or where its cell is.
 pub fn file(schedule: &[u8], l: Layout, record: &[u8]) -> Filed
     ensures { λ r. ⌜ filedMeaning r ≡ filingOf (now (schedule .entry)) l (now («record» .entry)) ⌝ }
 {
     let number = form_cause(record);
     if number != 0 {
         return Filed::Refused(number);
+    }
+    let field = field_cause(record);
+    if field != 0 {
+        return Filed::Refused(field);
     }
     file_listed(schedule, l, record)
 }

@@ -1,4 +1,4 @@
--- Demand 3 applies to a pair of lists in a schedule of one group, where every one of 31 days is lighter and keeps its messages.
+-- Demand 3 applies to two pairs of lists in a schedule of one group, where every one of 31 days is lighter and keeps its messages.
 use Prim.Native.Nat.{ℕ, _+_, _-_, _<_}
 use mathlib.Core.Bool.{Bool, true, false, _||_}
 use mathlib.Core.List.{List}
@@ -51,4 +51,8 @@ module _ (S C : List ℕ) (first second : List (List ℕ)) (one : layout S .grou
       }
 
 pub applies : Applies
-applies = falls _ _ _ _ (example .oneGroup) (example .easedLighter) (example .easedKept)
+applies =
+    record {
+      lots = falls _ _ _ _ (example .oneGroup) (example .easedLighter) (example .easedKept);
+      correction = falls _ _ _ _ (example .oneGroup) (example .amendedLighter) (example .amendedKept);
+    }

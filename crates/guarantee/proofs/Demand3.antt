@@ -29,11 +29,12 @@ use Rattle.lookup.specs.Lookup.{groupAt, firmPlace, firmListed, found, firmFoun
 use Rattle.schedule.specs.Check.{checkOf}
 use Rattle.lookup.specs.declared.Layout.{Layout}
 use Rattle.schedule.proofs.Good.{refused-good}
+use Rattle.cell.specs.Cell.{FirmCells, cellTotals}
 use Rattle.book.specs.Book.{size, checkBook, openAnswer, openBook}
-use Rattle.accepted.specs.Accepted.{accepted, own, posted}
+use Rattle.accepted.specs.Accepted.{acceptedCells, accepted, own, ofBytes, posted}
 use Rattle.book.proofs.Checked.{Sized, sized, book-good}
 use Rattle.accepted.proofs.Laws.{laws as bookLaws}
-use Rattle.month.specs.Month.{terms, monthOf, anyExcess, firmTotals, firmMonth, monthAnswer}
+use Rattle.month.specs.Month.{terms, monthOf, anyExcess, firmCells, firmMonth, monthAnswer}
 use Rattle.month.specs.Parts.{ListedAt, Grouped}
 use Rattle.month.proofs.Answers.{is-judged}
 use Rattle.month.proofs.Waivers.{month-grouped, one-or-two}
@@ -167,31 +168,32 @@ module _ (S C : List ℕ) (l : Layout) (listed : firmListed S l C ≡ true) wher
 
 -- of a good schedule
 module _ (S C : List ℕ) (l : Layout) (e : checkOf S ≡ good l) where
-  -- accepted totals are not refused by 22, as they fit
-  no-excess : (rs : List (List ℕ)) (f : ℕ) → anyExcess l (accepted S rs f) ≡ false
+  -- accepted totals and editions are not refused by 22, as they are within the limit
+  no-excess : (rs : List (List ℕ)) → ofBytes rs ≡ true → (f : ℕ) → anyExcess l (acceptedCells S rs f) ≡ false
   unfolding anyExcess
-  no-excess rs f =
+  no-excess rs bytes f =
       none-some places _ (λ i h.
-      let fine = bookLaws S e .limited rs f (groupOf i) (dayOf i) in
+      let fine = bookLaws S e .limited rs bytes f (groupOf i) (dayOf i) in
       rw (fine, and-false (leb (dayOf i) (daysIn (l .month)))))
 
-  module _ (B : List ℕ) (rs : List (List ℕ)) (listed : firmListed S l C ≡ true) (opened : openAnswer S B ≡ good tt) (room : size l ≤ length B) where
+  module _ (B : List ℕ) (rs : List (List ℕ)) (bytes : ofBytes rs ≡ true) (listed : firmListed S l C ≡ true) (opened : openAnswer S B ≡ good tt)
+      (room : size l ≤ length B) where
     abbrev after : List ℕ
     after = posted S (openBook S B) rs
 
-    held : firmTotals S after C l ≡ accepted S rs (firmPlace S l C)
-    held = bookLaws S e .held-totals B rs (firmPlace S l C) opened (place-inside S C l listed)
+    held : firmCells S after C l ≡ acceptedCells S rs (firmPlace S l C)
+    held = bookLaws S e .held B rs (firmPlace S l C) opened (place-inside S C l listed)
 
     -- after any list from an opened book a listed firm's month is not refused
     pub judged-after : monthAnswer S after C ≡ good l
     judged-after =
         let at : ListedAt S l after C (firmPlace S l C)
         = record { checked = book-good S (length after) e (rw (bookLaws S e .kept) room); listed = listed; place = refl } in
-        is-judged S after C l (firmPlace S l C) at (ap (anyExcess l) held ∙ no-excess rs (firmPlace S l C))
+        is-judged S after C l (firmPlace S l C) at (ap (anyExcess l) held ∙ no-excess rs bytes (firmPlace S l C))
 
     -- and its statement is that of its accepted totals
     stated : (out : List ℕ) → (statementAnswer S after C out ≡ refused 23 0 → ⊥) → Written S after C out l (monthOf S l (accepted S rs (firmPlace S l C)))
-    stated out enough = subst (λ (c : DailyTotals). Written S after C out l (monthOf S l c)) held (written S after C out l judged-after enough)
+    stated out enough = subst (λ (c : FirmCells). Written S after C out l (monthOf S l (cellTotals c))) held (written S after C out l judged-after enough)
 
 -- the bytes of a firm's statement after a list
 abbrev bytesAfter : (S C : List ℕ) → (rs : List (List ℕ)) → List ℕ
@@ -202,7 +204,7 @@ module _ (S C : List ℕ) (listed : isListed S C ≡ true) where
   pub run : (p : Run S C) → Written S (posted S (openBook S (p .book)) (p .posts)) C (p .output) (layout S) (monthAfter S C (p .posts))
   run p =
       let s = opens S (p .book) (p .opened) in
-      stated S C (layout S) (s .schedule) (p .book) (p .posts) listed (p .opened) (s .room) (p .output) (p .enough)
+      stated S C (layout S) (s .schedule) (p .book) (p .posts) (p .bytes) listed (p .opened) (s .room) (p .output) (p .enough)
 
   -- what it leaves behind its bytes
   abbrev rest : Run S C → List ℕ
@@ -226,7 +228,7 @@ module _ (S C : List ℕ) (listed : isListed S C ≡ true) where
   same p q h =
       let laws = bookLaws S (opens S (p .book) (p .opened) .schedule) in
       let alike : totalsAfter S C (p .posts) ≡ totalsAfter S C (q .posts) =
-      laws .own-only C _ (p .posts) (q .posts) (place-found S C (layout S) listed) h in
+      ap cellTotals (laws .own-only C _ (p .posts) (q .posts) (place-found S C (layout S) listed) h) in
       let e : bytesAfter S C (p .posts) ≡ bytesAfter S C (q .posts) = ap (λ (c : DailyTotals). statementBytes S (layout S) (monthOf S (layout S) c)) alike in
       record {
         written = length (bytesAfter S C (p .posts));

@@ -1,9 +1,10 @@
 -- Demand 3 of the customer's letter, in the words of document 01 ("Demand 3 is a single claim about whole lists of posts") and of the calls,
--- bytes and scores as document 02, 2.1 and 2.2, has them. S is the schedule, any bytes; C a firm's code; rs a list of posts, any byte strings.
+-- bytes, scores and corrections as document 02, 2.1 to 2.3, has them. S is the schedule, any bytes; C a firm's code; rs a list of posts, any byte
+-- strings, activity and corrections among them in any order.
 -- Proved in proofs/Demand3.antt: of every schedule and every firm that it lists.
 -- Assumes nothing.
 use Prim.Native.Nat.{ℕ, _+_, _*_, _≤_}
-use mathlib.Core.Bool.{Bool}
+use mathlib.Core.Bool.{Bool, true}
 use mathlib.Core.List.{List}
 use mathlib.Core.Path.{_≡_}
 use lib.ListN.{take, drop}
@@ -18,7 +19,7 @@ use Rattle.schedule.specs.Check.{nothing, checkOf}
 use Rattle.lookup.specs.InForce.{rulesOf}
 use Rattle.lookup.specs.declared.Layout.{Layout}
 use Rattle.book.specs.Book.{openAnswer, openBook}
-use Rattle.accepted.specs.Accepted.{accepted, own, posted}
+use Rattle.accepted.specs.Accepted.{accepted, own, ofBytes, posted}
 use Rattle.month.specs.Month.{terms, monthOf}
 use Rattle.statement.specs.Layout.{lineSize, totalsSize, bothTotals, totalsKind, totalsGrouping, totalsZero, totalsViolations, totalsMonthly, totalsAutomatic, totalsBilled, totalsDollars}
 use Rattle.statement.specs.Statement.{statementAnswer, statementOutput}
@@ -32,7 +33,7 @@ module _ (S C : List ℕ) where
   abbrev pub isListed : Bool
   isListed = firmListed S (layout S) C
 
-  -- Accepted totals of its cells come from the schedule and the list alone
+  -- Accepted totals of its cells come from the schedule and the list alone; 2.3: those that stand after the list
   abbrev pub totalsAfter : (rs : List (List ℕ)) → DailyTotals
   totalsAfter rs = accepted S rs (firmPlace S (layout S) C)
 
@@ -51,6 +52,8 @@ module _ (S C : List ℕ) where
     pub posts : List (List ℕ)
     pub output : List ℕ
     pub opened : openAnswer S book ≡ good tt
+    -- each post is a string of bytes; any bytes may be posted
+    pub bytes : ofBytes posts ≡ true
     pub enough : statementAnswer S (posted S (openBook S book) posts) C output ≡ refused 23 0 → ⊥
 
   -- what the statement answers

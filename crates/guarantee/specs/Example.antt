@@ -1,6 +1,6 @@
 -- Computed examples: the statement of document 01's whole run, byte by byte (its lines are those of document 02, 2.1), and one that has all four marks,
--- all three tiers and both exchange groupings; a month in which traffic falls and the amount with it; and one that shows why demand 3 asks that no
--- raw count above zero becomes zero.
+-- all three tiers and both exchange groupings; a month in which traffic falls and the amount with it; one that shows why demand 3 asks that no
+-- raw count above zero becomes zero; and (document 02, 2.3) one whose amount rises by activity and falls by a correction.
 -- Assumes nothing.
 use Prim.Native.Nat.{ℕ, _+_, _*_}
 use mathlib.Core.Bool.{Bool, _&&_, _||_}
@@ -17,14 +17,16 @@ use Rattle.rules.specs.declared.Totals.{Totals}
 use Rattle.records.specs.Fields.{headFields, headOk, groupFields, groupInRange, isLetter, firmFields, firmOk, hasCode}
 use Rattle.contracts.specs.Listing.{contractsOk, contractBad, before, contract, listed}
 use Rattle.contracts.specs.Counted.{contractListed, contractCounted, inFront, isAfter, isCounted, contractIs}
-use Rattle.schedule.specs.Outcome.{Outcome, good}
+use Rattle.schedule.specs.Outcome.{Outcome, refused, good}
 use Rattle.lookup.specs.Lookup.{groupStart, groupIs, firmIs, groupListed, firmListed}
 use Rattle.schedule.specs.Check.{checkOf, scan, ending, withRecord, cause, isRepeated, fieldsOk, isFull, lengthOk, isDue, kindOf}
 use Rattle.activity.specs.Activity.{totalsOf}
-use Rattle.book.specs.Book.{perFirmGroup, checkBook, openBook}
-use Rattle.book.specs.Post.{postCause}
+use Rattle.activity.specs.Correction.{correctionFields}
+use Rattle.cell.specs.Cell.{none}
+use Rattle.book.specs.Book.{perFirmGroup, index, withCell, checkBook, openBook}
+use Rattle.book.specs.Post.{taking}
 use Rattle.accepted.specs.Accepted.{acceptedCells, posted}
-use Rattle.accepted.specs.Samples.{head, group, ABC, firm, activity}
+use Rattle.accepted.specs.Samples.{head, group, ABC, firm, activity, correction}
 use Rattle.month.specs.Month.{anyExcess, monthAnswer}
 use Rattle.statement.specs.Lines.{lineAt, tally, shown}
 use Rattle.statement.specs.Statement.{statementAnswer, statementOutput}
@@ -111,6 +113,22 @@ excused = fifth 69 83 1 10000 ∷ fifth 69 83 2 10000 ∷ fifth 69 83 3 10000 �
 abbrev silent : List (List ℕ)
 silent = fifth 69 83 1 10000 ∷ fifth 69 83 2 10000 ∷ fifth 69 83 3 10000 ∷ orders 69 83 4 0 0 0 1000000 ∷ []
 
+-- two failing days
+abbrev early : List (List ℕ)
+early = fifth 69 83 1 10000 ∷ fifth 69 83 2 10000 ∷ []
+
+-- and a third
+abbrev pub reported : List (List ℕ)
+reported = early ++ fifth 69 83 3 10000 ∷ []
+
+-- the report of day 3 left lots out: the day is corrected
+abbrev pub amended : List (List ℕ)
+amended = reported ++ correction 69 83 3 1 122000 143000 20000 ∷ []
+
+-- a book with this edition in the cell of day 1, and else as open leaves it
+abbrev withEdition : (n : ℕ) → List ℕ
+withEdition n = withCell (openBook schedule (table perFirmGroup (λ i. 9))) (index 1 0 0 1) (record { totals = none; edition = n })
+
 -- raw and score no larger and lots no smaller
 abbrev pub isLighter : (t′ t : Totals) → Bool
 isLighter t′ t = leb (t′ .raw) (t .raw) && (leb (t′ .score) (t .score) && leb (t .lots) (t′ .lots))
@@ -139,13 +157,23 @@ pub record Example : Type 0 where
   pub silentKept : daysWhere isKept schedule ABC excused silent ≡ 30
   pub excusedAmount : amountAfter schedule ABC excused 1 ≡ 0
   pub silentAmount : amountAfter schedule ABC silent 1 ≡ 1000
+  -- 2.3: the amount rises by activity, and falls by a correction, which makes the month lighter
+  pub earlyAmount : amountAfter schedule ABC early 1 ≡ 0
+  pub reportedAmount : amountAfter schedule ABC reported 1 ≡ 1000
+  pub amendedLighter : daysWhere isLighter schedule ABC reported amended ≡ 31
+  pub amendedKept : daysWhere isKept schedule ABC reported amended ≡ 31
+  pub amendedAmount : amountAfter schedule ABC amended 1 ≡ 0
+  -- 2.3: 22 looks at editions too
+  pub fullEdition : statementAnswer schedule (withEdition 10000000000) ABC (table 36 (λ i. 7)) ≡ good 36
+  pub spoiltEdition : statementAnswer schedule (withEdition 10000000001) ABC (table 36 (λ i. 7)) ≡ refused 22 0
 
--- so demand 3 applies to the first pair: proved in proofs/Applied.antt
-abbrev pub Applies : Type 0
-Applies = Falls schedule ABC run eased
+-- so demand 3 applies to the first pair, and to the correction: proved in proofs/Applied.antt
+pub record Applies : Type 0 where
+  pub lots : Falls schedule ABC run eased
+  pub correction : Falls schedule ABC reported amended
 
 pub example : Example
-unfolding acceptedCells posted postCause totalsOf checkBook checkOf scan ending withRecord cause isRepeated fieldsOk isFull lengthOk isDue kindOf
+unfolding acceptedCells posted taking totalsOf correctionFields checkBook checkOf scan ending withRecord cause isRepeated fieldsOk isFull lengthOk isDue kindOf
     firmListed groupListed firmIs groupIs groupStart firmOk firmFields hasCode groupInRange groupFields contractsOk contractBad before contract
     listed headOk headFields isLetter contractIs isCounted isAfter inFront contractCounted contractListed daysIn sum joined seekIn all choose u32At
     u16At verdict anyExcess monthAnswer lineAt tally shown
@@ -164,4 +192,11 @@ example =
       silentKept = refl;
       excusedAmount = refl;
       silentAmount = refl;
+      earlyAmount = refl;
+      reportedAmount = refl;
+      amendedLighter = refl;
+      amendedKept = refl;
+      amendedAmount = refl;
+      fullEdition = refl;
+      spoiltEdition = refl;
     }

@@ -12,7 +12,7 @@ use borrow.Author.Tests.{eqb-true, eqb-false}
 use Rattle.wire.specs.Cut.{firstLength, cut}
 use Rattle.wire.proofs.Cut.{first-in, cut-none, cut-next}
 use Rattle.wire.proofs.Lists.{part-lent}
-use Rattle.input.specs.Input.{isActivity, bytesBefore, recordsFrom, scheduleOf, activityOf}
+use Rattle.input.specs.Input.{beginsActivity, bytesBefore, recordsFrom, scheduleOf, activityOf}
 
 module _ (S : List ℕ) where
   -- no bytes, no schedule
@@ -26,29 +26,29 @@ module _ (S : List ℕ) where
   activity-none e = rw (cut-none (length S) S e)
 
   module _ (some : 0 < length S) where
-    -- an activity record ends the schedule
-    pub schedule-stops : isActivity (take (firstLength S) S) ≡ true → scheduleOf S ≡ []
+    -- a record that begins the activity ends the schedule
+    pub schedule-stops : beginsActivity (take (firstLength S) S) ≡ true → scheduleOf S ≡ []
     unfolding bytesBefore
     schedule-stops t = rw (cut-next S some, t)
 
-    -- all records from an activity record on are the activity's
-    activity-starts : isActivity (take (firstLength S) S) ≡ true → cut S ≡ activityOf S
+    -- all records from there on are the activity's
+    activity-starts : beginsActivity (take (firstLength S) S) ≡ true → cut S ≡ activityOf S
     unfolding recordsFrom
     activity-starts t = rw (cut-next S some, t)
 
     -- any other record is the schedule's first
-    schedule-next : isActivity (take (firstLength S) S) ≡ false → scheduleOf S ≡ take (firstLength S) S ++ scheduleOf (drop (firstLength S) S)
+    schedule-next : beginsActivity (take (firstLength S) S) ≡ false → scheduleOf S ≡ take (firstLength S) S ++ scheduleOf (drop (firstLength S) S)
     unfolding bytesBefore
     schedule-next t = rw (cut-next S some, t)
 
     -- any other record is none of the activity's
-    activity-next : isActivity (take (firstLength S) S) ≡ false → activityOf (drop (firstLength S) S) ≡ activityOf S
+    activity-next : beginsActivity (take (firstLength S) S) ≡ false → activityOf (drop (firstLength S) S) ≡ activityOf S
     unfolding recordsFrom
     activity-next t = rw (cut-next S some, t)
 
     -- any other record adds its bytes to the schedule
     pub schedule-longer :
-        isActivity (take (firstLength S) S) ≡ false → length (scheduleOf S) ≡ firstLength S + length (scheduleOf (drop (firstLength S) S))
+        beginsActivity (take (firstLength S) S) ≡ false → length (scheduleOf S) ≡ firstLength S + length (scheduleOf (drop (firstLength S) S))
     schedule-longer t = rw (schedule-next t, length-append, length-take-le (firstLength S) S (first-in S .most))
 
 -- the input falls into its schedule and the bytes of its activity
@@ -62,7 +62,7 @@ parted-none : (I : List ℕ) → scheduleOf I ≡ [] → cut I ≡ activityOf I 
 parted-none I e a = record { first = rw e; rest = rw e a; most = rw e (omega arith) }
 
 -- a record that is no activity goes before a rest that is parted
-parted-next : (S : List ℕ) → 0 < length S → isActivity (take (firstLength S) S) ≡ false → Parted (drop (firstLength S) S) → Parted S
+parted-next : (S : List ℕ) → 0 < length S → beginsActivity (take (firstLength S) S) ≡ false → Parted (drop (firstLength S) S) → Parted S
 parted-next S some t p =
     record {
       first = rw (schedule-longer S some t, take-add, p .first) (sym (schedule-next S some t));
@@ -73,9 +73,9 @@ parted-next S some t p =
 -- any run is parted: as much fuel as bytes is enough, for each record has a byte
 parted-in : (fuel : ℕ) (S : List ℕ) → length S ≤ fuel → Parted S
 parted-in zero S h = parted-none S (schedule-none S (omega arith)) (activity-none S (omega arith))
-parted-in (suc fuel) S h = go (eqb (length S) 0) (isActivity (take (firstLength S) S)) refl refl (parted-in fuel (drop (firstLength S) S))
+parted-in (suc fuel) S h = go (eqb (length S) 0) (beginsActivity (take (firstLength S) S)) refl refl (parted-in fuel (drop (firstLength S) S))
   where
-    go : (b t : Bool) → eqb (length S) 0 ≡ b → isActivity (take (firstLength S) S) ≡ t
+    go : (b t : Bool) → eqb (length S) 0 ≡ b → beginsActivity (take (firstLength S) S) ≡ t
         → (length (drop (firstLength S) S) ≤ fuel → Parted (drop (firstLength S) S)) → Parted S
     go true t e s later = let none = eqb-true (length S) 0 e in parted-none S (schedule-none S none) (activity-none S none)
     go false true e s later =

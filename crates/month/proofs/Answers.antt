@@ -11,7 +11,7 @@ use Rattle.schedule.specs.Outcome.{Outcome, refused, good, follow}
 use Rattle.lookup.specs.Lookup.{firmListed}
 use Rattle.lookup.specs.declared.Layout.{Layout}
 use Rattle.schedule.proofs.Good.{refused-good}
-use Rattle.book.specs.Book.{totalsIn, checkBook}
+use Rattle.book.specs.Book.{cells, checkBook}
 use Rattle.month.specs.Month.{anyExcess, monthCauses, monthAnswer}
 use Rattle.month.specs.Parts.{ListedAt}
 
@@ -30,13 +30,13 @@ module _ (S B C : List ℕ) where
         rw (e, n)
 
   module _ (l : Layout) (f : ℕ) (at : ListedAt S l B C f) where
-    pub is-22 : anyExcess l (totalsIn (l .groups) B f) ≡ true → monthAnswer S B C ≡ refused 22 0
+    pub is-22 : anyExcess l (cells (l .groups) B f) ≡ true → monthAnswer S B C ≡ refused 22 0
     unfolding monthAnswer
     is-22 h =
         let n : choose (monthCauses S B C l) 0 ≡ 22 = chosen (next (ap not (at .listed)) (here (rw (at .place) at h))) in
         rw (at .checked, n)
 
-    pub is-judged : anyExcess l (totalsIn (l .groups) B f) ≡ false → monthAnswer S B C ≡ good l
+    pub is-judged : anyExcess l (cells (l .groups) B f) ≡ false → monthAnswer S B C ≡ good l
     unfolding monthAnswer
     is-judged h =
         let n : choose (monthCauses S B C l) 0 ≡ 0 = chosen (next (ap not (at .listed)) (next (rw (at .place) at h) done)) in

@@ -24,14 +24,16 @@ use Rattle.lookup.specs.declared.Layout.{Layout}
 use Rattle.schedule.proofs.Found.{group-listed}
 use Rattle.calendar.proofs.Laws.{days-most}
 use Rattle.lookup.specs.InForce.{rulesOf}
-use Rattle.book.specs.Book.{totalsIn}
+use Rattle.cell.specs.declared.Cell.{Cell}
+use Rattle.cell.specs.Cell.{isWithin, empty, FirmCells, cellTotals}
+use Rattle.book.specs.Book.{cells, totalsIn}
 use Rattle.month.specs.Month.{terms, isExcess, anyExcess}
 use Rattle.month.specs.Parts.{Sound, Within, withDay, sumsTo, verdictIn}
 use Rattle.month.specs.declared.days.MonthSums.{MonthSums}
 
 -- a cell of a day in effect stands at one of the places that 22 looks at
-module _ (S : List ℕ) {l : Layout} (c : DailyTotals) (ok : Sound S l c) (g day : ℕ) (h : g < 32) (on : inEffect (l .month) (l .closed) day ≡ true) where
-  pub cell-fits : fits 1 (c g day) ≡ true
+module _ (S : List ℕ) {l : Layout} (c : FirmCells) (ok : Sound S l c) (g day : ℕ) (h : g < 32) (on : inEffect (l .month) (l .closed) day ≡ true) where
+  pub cell-fits : fits 1 (c g day .totals) ≡ true
   unfolding anyExcess
   cell-fits =
       let r = range 1 (daysIn (l .month)) day (and-left (within 1 (daysIn (l .month)) day) _ on) in
@@ -40,17 +42,17 @@ module _ (S : List ℕ) {l : Layout} (c : DailyTotals) (ok : Sound S l c) (g day
       let p : i % 32 ≡ g = omega arith in
       let q : i / 32 + 1 ≡ day = omega arith in
       let z = none-at places (isExcess l c) (ok .within) i (omega arith) in
-      not-false _ (simp (p, q, le-leb _ _ (r .most)) at z)
+      and-left (fits 1 (c g day .totals)) _ (not-false (isWithin (c g day)) (simp (p, q, le-leb _ _ (r .most)) at z))
 
 -- so there is a verdict on a cell of a listed group, on a day in effect, and it is the place's
-pub verdict-place : (S : List ℕ) {l : Layout} (c : DailyTotals) → Sound S l c → (i : ℕ)
+pub verdict-place : (S : List ℕ) {l : Layout} (c : FirmCells) → Sound S l c → (i : ℕ)
     → (ltb (groupOf i) (l .groups) && inEffect (l .month) (l .closed) (dayOf i)) ≡ true
-    → verdictIn (daysVerdict 1 (c (groupOf i) (dayOf i)) (groupAt S l (groupOf i) .benchmark)) ≡ verdictAt (rulesOf S) (terms S l) c i
+    → verdictIn (daysVerdict 1 (cellTotals c (groupOf i) (dayOf i)) (groupAt S l (groupOf i) .benchmark)) ≡ verdictAt (rulesOf S) (terms S l) (cellTotals c) i
 verdict-place S {l} c ok i e =
     let h = ltb-true (groupOf i) (l .groups) (and-left (ltb (groupOf i) (l .groups)) _ e) in
     let on = and-right (ltb (groupOf i) (l .groups)) _ e in
     let b = group-listed S (ok .checked) (groupOf i) h .benchmark in
-    rw e (ap verdictIn (days-decided 1 (c (groupOf i) (dayOf i)) (groupAt S l (groupOf i) .benchmark) (lit≤ tt) (cell-fits S c ok (groupOf i) (dayOf i) (omega arith) on) b))
+    rw e (ap verdictIn (days-decided 1 (cellTotals c (groupOf i) (dayOf i)) (groupAt S l (groupOf i) .benchmark) (lit≤ tt) (cell-fits S c ok (groupOf i) (dayOf i) (omega arith) on) b))
 
 -- a day's sums, number by number
 day-more : (t : Bool) (s : MonthSums) (a : Totals)
@@ -119,6 +121,10 @@ module _ (s : Terms) (c : DailyTotals) (g : ℕ) where
       let z = sum-most 31 0 (λ i. cond (counted s c g (i + 1)) (c g (i + 1) .raw) 0) (λ i _. cond-le (counted s c g (i + 1)) (h (i + 1)) (le-refl 0)) in
       rw (le-leb (sums s c g .raw) (20000 * days s c g) (le-trans z zero-le))
 
--- and past the last group there are none
+-- past the last group the cells are empty
+past-empty : (G : ℕ) (B : List ℕ) (f g day : ℕ) → G ≤ g → cells G B f g day ≡ empty
+past-empty G B f g day h = rw (cells, le-ltb g G h)
+
+-- so there are no messages there
 pub exempt-past : (S : List ℕ) (l : Layout) (B : List ℕ) (f g : ℕ) → l .groups ≤ g → exempt (rulesOf S) (terms S l) (totalsIn (l .groups) B f) g ≡ true
-exempt-past S l B f g h = exempt-none (terms S l) (totalsIn (l .groups) B f) g (λ day. rw (totalsIn, le-ltb g (l .groups) h) (le-refl 0))
+exempt-past S l B f g h = exempt-none (terms S l) (totalsIn (l .groups) B f) g (λ day. omega (arith, ap (λ (c : Cell). c .totals .raw) (past-empty (l .groups) B f g day h)))

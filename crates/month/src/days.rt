@@ -1,11 +1,12 @@
 // A firm's days in the book: refusal 22, the verdicts on its places, the month's sums and exemptions.
 use crate::groups::group_of;
-use book::totals_in;
+use book::cell_in;
 use calendar::days_in;
 use calendar::in_effect;
 use lookup::Layout;
 use rules::DaysVerdict;
 use rules::GROUPS;
+use rules::LIMIT;
 use rules::NOT_JUDGED;
 use rules::PLACES;
 use rules::Totals;
@@ -20,23 +21,23 @@ ghost use Rattle.rules.specs.Verdict.{fits, daysMeaning};
 ghost use Rattle.rules.specs.Month.{exempt};
 ghost use Rattle.rules.specs.Marks.{mostGroups, places, verdictAt};
 ghost use Rattle.lookup.specs.InForce.{rulesOf};
-ghost use Rattle.book.specs.Book.{totalsIn};
+ghost use Rattle.book.specs.Book.{cells, totalsIn};
 ghost use Rattle.month.specs.Month.{terms, isExcess, anyExcess, startsOf, exemptsOf};
 ghost use Rattle.month.specs.Parts.{Sound, Within, withDay, sumsTo, verdictIn, VerdictsAre};
 
 // Whether place i is of a day of the month, and has a number above the limit.
 fn excess_at(l: Layout, book: &[u64], firm: u8, i: usize) -> bool
     requires { ⌜ i < places ⌝ }
-    ensures { λ r. ⌜ r ≡ isExcess l (totalsIn (l .groups) (now (book .entry)) firm) i ⌝ }
+    ensures { λ r. ⌜ r ≡ isExcess l (cells (l .groups) (now (book .entry)) firm) i ⌝ }
 {
     let day = (i / GROUPS + 1) as u8;
-    let t = totals_in(book, l.groups, firm, (i % GROUPS) as u8, day);
-    (day <= days_in(l.month)) & !fits(1, t)
+    let c = cell_in(book, l.groups, firm, (i % GROUPS) as u8, day);
+    (day <= days_in(l.month)) & !(fits(1, c.totals) & (c.edition <= LIMIT))
 }
 
 // Refusal 22: whether a number of the firm, days of the month, is above the limit.
 pub(crate) fn has_excess(l: Layout, book: &[u64], firm: u8) -> bool
-    ensures { λ r. ⌜ r ≡ anyExcess l (totalsIn (l .groups) (now (book .entry)) firm) ⌝ }
+    ensures { λ r. ⌜ r ≡ anyExcess l (cells (l .groups) (now (book .entry)) firm) ⌝ }
 {
     let mut i: usize = 0;
     while i < PLACES {
@@ -87,7 +88,7 @@ fn with_cell(sums: MonthSums, counted: bool, t: Totals) -> MonthSums
 // The sums of a group of the firm over the month. The schedule is an argument since the contract names the month's terms by it.
 fn month_sums(schedule: &[u8], l: Layout, book: &[u64], firm: u8, group: u8) -> MonthSums
     requires { ⌜ group < mostGroups ⌝ }
-    requires { ⌜ Sound (now schedule) l (totalsIn (l .groups) (now book) firm) ⌝ }
+    requires { ⌜ Sound (now schedule) l (cells (l .groups) (now book) firm) ⌝ }
     ensures { λ r. ⌜ r ≡ sumsTo (terms (now (schedule .entry)) l) (totalsIn (l .groups) (now (book .entry)) firm) group 31 ⌝ }
 {
     let mut sums = MonthSums {
@@ -98,7 +99,7 @@ fn month_sums(schedule: &[u8], l: Layout, book: &[u64], firm: u8, group: u8) -> 
     };
     let mut d: u8 = 0;
     while d < 31 {
-        let t = totals_in(book, l.groups, firm, group, d + 1);
+        let t = cell_in(book, l.groups, firm, group, d + 1).totals;
         let counted = in_effect(l.month, l.closed, d + 1) & (0 < t.raw);
         sums = with_cell(sums, counted, t);
         d += 1;
@@ -128,7 +129,7 @@ fn is_exempt(
 ) -> bool
     requires { ⌜ g < mostGroups ⌝ }
     requires { ⌜ now starts ≡ startsOf (now schedule) l ⌝ }
-    requires { ⌜ Sound (now schedule) l (totalsIn (l .groups) (now book) firm) ⌝ }
+    requires { ⌜ Sound (now schedule) l (cells (l .groups) (now book) firm) ⌝ }
     ensures { λ r. ⌜ r ≡ exempt (rulesOf (now (schedule .entry))) (terms (now (schedule .entry)) l) (totalsIn (l .groups) (now (book .entry)) firm) g ⌝ }
 {
     if (l.groups as usize) <= g {
@@ -153,7 +154,7 @@ pub(crate) fn fill_exempts(
     starts: &[usize; GROUPS],
 ) -> [bool; GROUPS]
     requires { ⌜ now starts ≡ startsOf (now schedule) l ⌝ }
-    requires { ⌜ Sound (now schedule) l (totalsIn (l .groups) (now book) firm) ⌝ }
+    requires { ⌜ Sound (now schedule) l (cells (l .groups) (now book) firm) ⌝ }
     ensures { λ r. ⌜ r ≡ exemptsOf (now (schedule .entry)) l (totalsIn (l .groups) (now (book .entry)) firm) ⌝ }
 {
     let mut exempts = [false; GROUPS];
@@ -176,7 +177,7 @@ fn place_verdict(
 ) -> Verdict
     requires { ⌜ i < places ⌝ }
     requires { ⌜ now starts ≡ startsOf (now schedule) l ⌝ }
-    requires { ⌜ Sound (now schedule) l (totalsIn (l .groups) (now book) firm) ⌝ }
+    requires { ⌜ Sound (now schedule) l (cells (l .groups) (now book) firm) ⌝ }
     ensures { λ r. ⌜ r ≡ verdictAt (rulesOf (now (schedule .entry))) (terms (now (schedule .entry)) l) (totalsIn (l .groups) (now (book .entry)) firm) i ⌝ }
 {
     let g = i % GROUPS;
@@ -185,7 +186,7 @@ fn place_verdict(
         return NOT_JUDGED;
     }
     let benchmark = group_of(schedule, l, starts, g).benchmark as u64;
-    let t = totals_in(book, l.groups, firm, g as u8, day);
+    let t = cell_in(book, l.groups, firm, g as u8, day).totals;
     verdict_of(days_verdict(1, t, benchmark))
 }
 
@@ -204,7 +205,7 @@ pub(crate) fn fill_verdicts(
     starts: &[usize; GROUPS],
 ) -> Verdicts
     requires { ⌜ now starts ≡ startsOf (now schedule) l ⌝ }
-    requires { ⌜ Sound (now schedule) l (totalsIn (l .groups) (now book) firm) ⌝ }
+    requires { ⌜ Sound (now schedule) l (cells (l .groups) (now book) firm) ⌝ }
     ensures { λ r. ⌜ VerdictsAre r (verdictAt (rulesOf (now (schedule .entry))) (terms (now (schedule .entry)) l) (totalsIn (l .groups) (now (book .entry)) firm)) ⌝ }
 {
     let mut codes = [0u8; PLACES];

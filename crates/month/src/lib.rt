@@ -20,7 +20,7 @@ use schedule::Checked;
 ghost use mathlib.Core.Bool.{false};
 ghost use mathlib.Core.Path.{_≡_};
 ghost use Rattle.schedule.specs.Outcome.{refused};
-ghost use Rattle.book.specs.Book.{totalsIn};
+ghost use Rattle.book.specs.Book.{cells};
 ghost use Rattle.month.specs.Month.{anyExcess, monthAnswer, MonthIs};
 ghost use Rattle.month.specs.Parts.{ListedAt};
 
@@ -55,7 +55,7 @@ fn refused_month(number: u8, offset: usize, schedule: &[u8], book: &[u64], code:
 // The month of a firm whose numbers are within the limit. The code is an argument since the contract names the firm by it.
 fn judged_month(schedule: &[u8], l: Layout, book: &[u64], code: &[u8], firm: u8) -> Month
     requires { ⌜ ListedAt (now schedule) l (now book) (now code) firm ⌝ }
-    requires { ⌜ anyExcess l (totalsIn (l .groups) (now book) firm) ≡ false ⌝ }
+    requires { ⌜ anyExcess l (cells (l .groups) (now book) firm) ≡ false ⌝ }
     ensures { λ r. ⌜ MonthIs (now (schedule .entry)) (now (book .entry)) (now (code .entry)) r ⌝ }
 {
     let starts = group_starts(schedule, l);

@@ -1,5 +1,5 @@
--- What mep-statement prints for an input (document 01, "Eleven marked days, a month and one whole run"). I is the input, S the schedule, l what
--- it holds, rs the activity records, B the book, C a firm's code.
+-- What mep-statement prints for an input (document 01, "Eleven marked days, a month and one whole run", and document 02, 2.3). I is the input, S the
+-- schedule, l what it holds, rs the posted records, B the book, C a firm's code.
 -- Assumes nothing.
 use Prim.Native.Nat.{ℕ, _+_, _-_, _*_, _/_}
 use mathlib.Core.Bool.{cond}
@@ -20,9 +20,9 @@ use Rattle.statement.specs.Statement.{statementAnswer, statementOutput}
 use Rattle.text.specs.Lines.{tooLong, heading, refusedLine, refusedAt, violationLine, totalsLine}
 use Rattle.input.specs.Input.{inputLimit, scheduleOf, activityOf}
 
--- Its book fits 88 firm-groups
+-- 2.3: its book fits 66 firm-groups
 abbrev pub firmGroups : ℕ
-firmGroups = 88
+firmGroups = 66
 
 -- the numbers of its book
 abbrev pub bookSize : ℕ

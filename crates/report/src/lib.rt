@@ -24,7 +24,7 @@ ghost use Rattle.report.specs.Answer.{ReportIs};
 pub const OUTPUT: usize = 524_288;
 
 // The firm-groups of the book, and its numbers.
-const FIRM_GROUPS: usize = 88;
+const FIRM_GROUPS: usize = 66;
 
 const BOOK: usize = FIRM_GROUPS * PER_FIRM_GROUP;
 

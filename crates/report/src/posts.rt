@@ -1,4 +1,4 @@
-// The posts of a run of activity records.
+// The posts of a run of records.
 use book::Posted;
 use book::post;
 use text::Line;

@@ -1,6 +1,6 @@
 -- How long a report can be: no longer than the program's output, whatever the input.
 use Prim.Native.Nat.{ℕ, zero, suc, _+_, _-_, _*_, _/_, _≤_, _<_, zero-le}
-use mathlib.Core.Bool.{Bool, true, false, cond, _&&_, false≢true}
+use mathlib.Core.Bool.{Bool, true, false, cond, not, _&&_, false≢true}
 use mathlib.Core.List.{List, [], _∷_}
 use mathlib.Core.Path.{_≡_, refl, sym, _∙_}
 use native.Mathlib.Nat.{le-refl, le-trans, mul-le-mul-left}
@@ -9,12 +9,12 @@ use lib.Dec.{ltb, eqb, lit≤}
 use lib.ListN.{length, take, drop, length-append, length-drop}
 use borrow.Author.Tests.{ltb-true, ltb-false, eqb-false}
 use Rattle.wire.specs.Bytes.{u16At}
-use Rattle.wire.specs.Choose.{within}
+use Rattle.wire.specs.Choose.{choose, within}
 use Rattle.wire.specs.Cut.{firstLength, cutIn, cut}
 use Rattle.wire.specs.Lists.{over}
 use Rattle.wire.specs.Sums.{count}
 use Rattle.wire.proofs.Bools.{range}
-use Rattle.wire.proofs.Choose.{choose-most}
+use Rattle.wire.proofs.Choose.{small, choose-most}
 use Rattle.wire.proofs.Cut.{cut-none}
 use Rattle.wire.proofs.Lists.{joined-most}
 use Rattle.wire.proofs.Sums.{count-blocks}
@@ -28,9 +28,10 @@ use Rattle.lookup.specs.declared.Layout.{Layout}
 use Rattle.schedule.proofs.Good.{good-schedule}
 use Rattle.accepted.specs.Accepted.{posted}
 use Rattle.book.specs.Book.{cellAt, checkBook, openBook}
-use Rattle.filing.specs.Causes.{isCountedRecord}
-use Rattle.book.specs.Post.{indexOf, postCause, outside, counted, answerUnder, postAnswer, postBook}
-use Rattle.book.specs.declared.cells.Cell.{Cell}
+use Rattle.filing.specs.Causes.{recordCauses, isCountedRecord}
+use Rattle.cell.specs.Entry.{cellCauses}
+use Rattle.book.specs.Post.{outside, counted, indexOf, taking, answerUnder, postAnswer, postBook}
+use Rattle.cell.specs.declared.Cell.{Cell}
 use Rattle.book.proofs.Checked.{by-room, sized}
 use Rattle.statement.specs.Layout.{lineSize, totalsSize, bothTotals, largest}
 use Rattle.statement.specs.Statement as statement
@@ -38,7 +39,7 @@ use Rattle.month.specs.Month.{terms, monthOf, firmTotals, firmMonth, monthAnswe
 use Rattle.month.proofs.Answers.{judged-book}
 use Rattle.statement.specs.Statement.{statementBytes, need, outputUnder}
 use Rattle.statement.proofs.Shown.{bytes-length}
-use Rattle.input.specs.Input.{inputLimit, isActivity, recordsFrom, scheduleOf, activityOf}
+use Rattle.input.specs.Input.{inputLimit, beginsActivity, recordsFrom, scheduleOf, activityOf}
 use Rattle.text.specs.Lines.{tooLong, violationLine}
 use Rattle.report_laws.proofs.LineBounds.{refused-at-most, heading-most, refused-most, refused-two, violation-most, totals-most}
 use Rattle.report.specs.Report.{bookSize, zeros, postLine, postLines, statementLines, firmLines, codeOf, statementOf}
@@ -69,7 +70,7 @@ records-most (suc fuel) S = go (eqb (length S) 0) (within 4 (length S) (u16At S 
 activity-most : (rs : List (List ℕ)) → length (recordsFrom rs) ≤ length rs
 unfolding recordsFrom
 activity-most [] = le-refl 0
-activity-most (R ∷ rs) = go (isActivity R) (activity-most rs)
+activity-most (R ∷ rs) = go (beginsActivity R) (activity-most rs)
   where
     go : (b : Bool) → length (recordsFrom rs) ≤ length rs → length (cond b (R ∷ rs) (recordsFrom rs)) ≤ length (R ∷ rs)
     go true ih = le-refl _
@@ -95,27 +96,36 @@ violations-most S l c = count-blocks (λ i. isViolation (monthOf S l c .verdict 
     go i true e v = ltb-true _ _ e
     go i false e v = absurd (false≢true v)
 
--- the greatest number of a refused record
-cause-most : (S : List ℕ) (l : Layout) (c : Cell) (R : List ℕ) → postCause S l c R ≤ 18
-unfolding postCause
-cause-most S l c R = choose-most (λ n. n) 18 _ refl zero-le
+-- a record has no line, or that of its first cause, of which 32 has the greatest number
+taking-most : (S : List ℕ) (l : Layout) (c : Cell) (R : List ℕ) → length (postLine (taking S l c R)) ≤ 11
+unfolding taking
+taking-most S l c R = go (eqb first 0) (isCountedRecord S l R) (eqb second 0)
+  where
+    first : ℕ
+    first = choose (recordCauses S l R) 0
+
+    second : ℕ
+    second = choose (cellCauses c R) 0
+
+    most : (cs : List (Bool × ℕ)) → small (λ n. n) 32 cs ≡ true → length (postLine (refused (choose cs 0) 0)) ≤ 11
+    most cs e = refused-two (choose cs 0) (omega (arith, choose-most (λ n. n) 32 cs e zero-le))
+
+    go : (x k y : Bool) → length (postLine (cond x (cond (not k) (good outside) (cond y (good counted) (refused second 0))) (refused first 0))) ≤ 11
+    go true true true = zero-le
+    go true true false = most (cellCauses c R) refl
+    go true false y = zero-le
+    go false k y = most (recordCauses S l R) refl
 
 -- so many bytes a firm's lines have at the most
 abbrev firmMost : Layout → ℕ
 firmMost l = 31 * l .groups * 59 + 280
 
 module _ (S : List ℕ) {l : Layout} (e : checkOf S ≡ good l) where
-  -- a post has no line, or that of 8 or of 11 to 18
+  -- a post has no line, or that of 8, or the record's
   post-most : (B R : List ℕ) → length (postLine (postAnswer S B R)) ≤ 11
   post-most B R =
-      by-room S (length B) e (λ c. length (postLine (follow c (answerUnder S B R))) ≤ 11) (refused-two 8 (lit≤ tt)) (λ h. go (eqb n 0))
-    where
-      n : ℕ
-      n = postCause S l (cellAt B (indexOf S l R)) R
-
-      go : (b : Bool) → length (postLine (cond b (good (cond (isCountedRecord S l R) counted outside)) (refused n 0))) ≤ 11
-      go true = zero-le
-      go false = refused-two n (omega (arith, cause-most S l (cellAt B (indexOf S l R)) R))
+      by-room S (length B) e (λ c. length (postLine (follow c (answerUnder S B R))) ≤ 11) (refused-two 8 (lit≤ tt))
+      (λ h. taking-most S l (cellAt B (indexOf S l R)) R)
 
   -- a list of posts has a line for each at the most
   posts-most : (B : List ℕ) (rs : List (List ℕ)) → length (postLines S B rs) ≤ 11 * length rs
@@ -148,8 +158,8 @@ module _ (S : List ℕ) {l : Layout} (e : checkOf S ≡ good l) where
           let same : k ≡ l = let h = sym (sized S (length B) (judged-book S B C q) .schedule) ∙ e in cc in
           rw same (by (ltb (length out) (need (firmMonth S B C l))))
 
--- a month has its heading, and the lines of its posts and firms: the book holds 93 numbers for each group of each firm, so these are at most 88
-month-most : (S : List ℕ) {l : Layout} → checkBook S bookSize ≡ good l → (rs : List (List ℕ)) → length (monthLines S l rs) ≤ 185617 + 11 * length rs
+-- a month has its heading, and the lines of its posts and firms: the book holds 124 numbers for each group of each firm, so these are at most 66
+month-most : (S : List ℕ) {l : Layout} → checkBook S bookSize ≡ good l → (rs : List (List ℕ)) → length (monthLines S l rs) ≤ 139219 + 11 * length rs
 unfolding monthLines
 month-most S {l} c rs =
     let z = sized S bookSize c in

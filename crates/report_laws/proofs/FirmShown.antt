@@ -23,7 +23,7 @@ use Rattle.lookup.specs.InForce.{rulesOf}
 use Rattle.lookup.specs.declared.Layout.{Layout}
 use Rattle.schedule.proofs.Good.{refused-good}
 use Rattle.book.specs.Book.{checkBook, openAnswer, openBook}
-use Rattle.accepted.specs.Accepted.{posted}
+use Rattle.accepted.specs.Accepted.{ofBytes, posted}
 use Rattle.book.proofs.Checked.{sized}
 use Rattle.month.specs.Month.{firmMonth, monthAnswer}
 use Rattle.statement.specs.Layout.{lineSize, totalsSize, bothTotals, largest}
@@ -82,21 +82,23 @@ module _ (P : Rules) where
       rw (n, one, two, totals-shown C (drop (afterLines j) R) 1 j t, totals-shown C (drop (afterLines j + totalsSize) R) 2 j u)
 
 -- after any list of posts each of the month's firms has its violations and totals
-pub firm-shown : (S : List ℕ) {l : Layout} → checkBook S bookSize ≡ good l → (rs : List (List ℕ)) (f : ℕ) → f < l .firms → FirmShown S l rs f
+pub firm-shown : (S : List ℕ) {l : Layout} → checkBook S bookSize ≡ good l → (rs : List (List ℕ)) → ofBytes rs ≡ true → (f : ℕ) → f < l .firms
+    → FirmShown S l rs f
 unfolding statementOf
-firm-shown S {l} e rs f h =
+firm-shown S {l} e rs bytes f h =
     let good-schedule = sized S bookSize e .schedule in
     let C : List ℕ = codeOf S l f in
     let B : List ℕ = posted S (openBook S (zeros bookSize)) rs in
     let listed : isListed S C ≡ true = rw good-schedule (own-listed S l f h) in
     let opened : openAnswer S (zeros bookSize) ≡ good tt = rw (zeros-length, e) in
-    let judged = judged-after S C l good-schedule (zeros bookSize) rs (own-listed S l f h) opened (rw zeros-length (sized S bookSize e .room)) in
+    let judged = judged-after S C l good-schedule (zeros bookSize) rs bytes (own-listed S l f h) opened (rw zeros-length (sized S bookSize e .room)) in
     let p : Run S C =
     record {
       book = zeros bookSize;
       posts = rs;
       output = zeros largest;
       opened = opened;
+      bytes = bytes;
       enough = enough S B C (zeros largest) l judged (rw zeros-length (le-refl _));
     } in
     let a = demand3 S C listed .adds-up p in

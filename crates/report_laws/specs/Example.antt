@@ -1,4 +1,5 @@
--- Computed examples of what mep-statement prints: document 01's whole run, what is refused, and a text that is cut.
+-- Computed examples of what mep-statement prints: document 01's whole run, what is refused, a text that is cut, and (document 02, 2.3) activity that
+-- begins with a correction.
 -- Assumes nothing.
 use Prim.Native.Nat.{ℕ}
 use mathlib.Core.List.{List, [], _∷_, _++_}
@@ -16,10 +17,11 @@ use Rattle.contracts.specs.Counted.{contractListed, contractCounted, inFront, i
 use Rattle.lookup.specs.Lookup.{groupStart, groupIs, firmIs, groupListed, firmListed}
 use Rattle.schedule.specs.Check.{checkOf, scan, ending, withRecord, cause, isRepeated, fieldsOk, isFull, lengthOk, isDue, kindOf}
 use Rattle.activity.specs.Activity.{totalsOf}
+use Rattle.activity.specs.Correction.{correctionFields}
 use Rattle.book.specs.Book.{checkBook}
-use Rattle.book.specs.Post.{postCause}
+use Rattle.book.specs.Post.{taking}
 use Rattle.accepted.specs.Accepted.{posted}
-use Rattle.accepted.specs.Samples.{firm}
+use Rattle.accepted.specs.Samples.{firm, activity, correction}
 use Rattle.month.specs.Month.{anyExcess, monthAnswer}
 use Rattle.statement.specs.Lines.{lineAt, tally, shown}
 use Rattle.guarantee.specs.Example.{schedule, run, threeGroups, manyMarks}
@@ -37,6 +39,10 @@ flat (R ∷ rs) = R ++ flat rs
 -- after the activity a firm's record, which is no activity, and a tail of two bytes
 abbrev late : List ℕ
 late = firm ++ 44 ∷ 0 ∷ []
+
+-- a correction of ABC in ES on day 1 to the fifth marked day, then an order in that cell
+abbrev corrected : List ℕ
+corrected = correction 69 83 1 1 122000 143000 10000 ++ activity 69 83 1 24239 1 0 0 0 0 0 0 0
 
 pub record Example : Type 0 where
   -- document 01's whole run
@@ -63,6 +69,14 @@ pub record Example : Type 0 where
       ++ text "ABC 5 ES severe 1000\n"
       ++ text "ABC grouping 1: 5 1 2 2 2000\n"
       ++ text "ABC grouping 2: 1 0 1 0 0\n"
+  -- 2.3: the first kind 8 begins the activity; the order is refused
+  pub correctionFirst :
+      report (schedule ++ corrected)
+      ≡ text "MPS 24237\n"
+      ++ text "refused 32\n"
+      ++ text "ABC 1 ES automatic 0\n"
+      ++ text "ABC grouping 1: 1 0 1 0 0\n"
+      ++ text "ABC grouping 2: 0 0 0 0 0\n"
   -- no activity: all is schedule, and the firm has its totals
   pub quiet :
       report schedule
@@ -80,7 +94,7 @@ pub record Example : Type 0 where
   pub cutOutput : reportOutput [] (zeros 14) ≡ text "refused 4 at 0"
 
 pub example : Example
-unfolding posted postCause totalsOf checkBook checkOf scan ending withRecord cause isRepeated fieldsOk isFull lengthOk isDue kindOf
+unfolding posted taking totalsOf correctionFields checkBook checkOf scan ending withRecord cause isRepeated fieldsOk isFull lengthOk isDue kindOf
     firmListed groupListed firmIs groupIs groupStart firmOk firmFields hasCode groupInRange groupFields contractsOk contractBad before contract
     listed headOk headFields isLetter contractIs isCounted isAfter inFront contractCounted contractListed daysIn sum joined seekIn all choose u32At
     u16At verdict anyExcess monthAnswer lineAt tally shown firstLength cutIn bytesBefore recordsFrom decimal refusedAt heading refusedLine markWord
@@ -89,6 +103,7 @@ example =
     record {
       wholeRun = refl;
       fourMarks = refl;
+      correctionFirst = refl;
       quiet = refl;
       noBytes = refl;
       firmFirst = refl;

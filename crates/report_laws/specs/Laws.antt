@@ -1,20 +1,23 @@
--- What holds of every report (document 01, "Eleven marked days, a month and one whole run", and document 02, 2.1). Proved in proofs/Laws.antt.
+-- What holds of every report (document 01, "Eleven marked days, a month and one whole run", and document 02, 2.1 and 2.3). Proved in proofs/Laws.antt.
 -- Assumes nothing.
 use Prim.Native.Nat.{ℕ, _+_, _*_, _≤_, _<_}
+use mathlib.Core.Bool.{true}
 use mathlib.Core.List.{List, _++_}
 use mathlib.Core.Path.{_≡_}
 use lib.ListN.{length, take, drop, set}
+use Rattle.wire.specs.Bytes.{areBytes}
 use Rattle.wire.specs.Lists.{joined}
 use Rattle.rules.specs.Marks.{Judged, violations, marked, billed, amount}
 use Rattle.schedule.specs.Outcome.{good}
 use Rattle.rules.specs.declared.Rules.{Rules}
 use Rattle.lookup.specs.InForce.{rulesOf}
 use Rattle.lookup.specs.declared.Layout.{Layout}
-use Rattle.accepted.specs.Accepted.{posted}
+use Rattle.accepted.specs.Accepted.{ofBytes, posted}
 use Rattle.book.specs.Book.{checkBook, openBook}
 use Rattle.statement.specs.Layout.{lineSize, factorAt, bothTotals, largest}
 use Rattle.statement.specs.Statement.{statementAnswer, statementOutput}
 use Rattle.guarantee.specs.Demand3.{monthAfter, afterLines}
+use Rattle.input.specs.Input.{activityOf}
 use Rattle.text.specs.Text.{text, field}
 use Rattle.text.specs.Lines.{violationLine}
 use Rattle.report.specs.Report.{bookSize, zeros, codeOf, statementOf, report}
@@ -66,5 +69,8 @@ pub record Laws : Type 0 where
   pub printed : (I O : List ℕ) → outputSize ≤ length O → take (length (report I)) (reportOutput I O) ≡ report I
   -- no answer has more bytes than the output
   pub within : (I O : List ℕ) → bytesOf (reportAnswer I O) ≤ length O
-  -- whatever was posted, each of the month's firms has its violations, and totals that add up to its amount
-  pub firms : (S : List ℕ) {l : Layout} → checkBook S bookSize ≡ good l → (rs : List (List ℕ)) (f : ℕ) → f < l .firms → FirmShown S l rs f
+  -- whatever bytes were posted, each of the month's firms has its violations, and totals that add up to its amount
+  pub firms : (S : List ℕ) {l : Layout} → checkBook S bookSize ≡ good l → (rs : List (List ℕ)) → ofBytes rs ≡ true → (f : ℕ) → f < l .firms
+      → FirmShown S l rs f
+  -- and so of an input of bytes: what it posts is of bytes
+  pub bytes : (I : List ℕ) → areBytes I ≡ true → ofBytes (activityOf I) ≡ true

@@ -11,7 +11,7 @@ use denote.Ref.{now}
 use borrow.Author.Needs.{needs}
 use Rattle.wire.specs.Cut.{firstLength}
 use Rattle.wire.proofs.Cut.{CutAt, cut-at}
-use Rattle.input.specs.Input.{isActivity, scheduleOf}
+use Rattle.input.specs.Input.{beginsActivity, scheduleOf}
 use Rattle.input.proofs.Cuts.{schedule-none, schedule-stops, schedule-longer}
 use Rattle.input.proofs.schedule_end.Statement.{statement}
 use Rattle.input.proofs.schedule_end.Tie as tie
@@ -36,9 +36,9 @@ measured : (c : tie.After-first-len Inv-loop μ-loop)
 measured c = cut-at _ _ _ (c .before .before .loop-test .taken) (c .first-len .ensures)
 
 -- that record is the one tested
-test-first : (c : tie.After-is-activity Inv-loop μ-loop)
-    → (let S = left (c .before .before .before .before) in c .is-activity .result ≡ isActivity (take (firstLength S) S))
-test-first c = rw (add-sub-cancel-left, measured (c .before .before) .first) at (c .is-activity .ensures)
+test-first : (c : tie.After-begins-activity Inv-loop μ-loop)
+    → (let S = left (c .before .before .before .before) in c .begins-activity .result ≡ beginsActivity (take (firstLength S) S))
+test-first c = rw (add-sub-cancel-left, measured (c .before .before) .first) at (c .begins-activity .ensures)
 
 loop-again : tie.Need-loop-again Inv-loop μ-loop
 loop-again c =

@@ -5,7 +5,7 @@ use borrow.Author.Needs.{needs}
 use Rattle.wire.specs.Lists.{table}
 use Rattle.rules.specs.Marks.{places, mark}
 use Rattle.rules.specs.declared.Rules.{Rules}
-use Rattle.book.specs.Book.{totalsIn}
+use Rattle.book.specs.Book.{cells, totalsIn}
 use Rattle.book.proofs.Checked.{sized}
 use Rattle.month.specs.Parts.{Sound, held}
 use Rattle.month.proofs.Answers.{is-judged}
@@ -23,7 +23,7 @@ groups c = c .before .before
 abbrev places-judged : tie.After-fill-exempts → tie.After-fill-verdicts
 places-judged c = c .before .before .before .before
 
-sound : (s : tie.Start) → let a = s .args in Sound (now (a .schedule)) (a .l) (totalsIn (a .l .groups) (now (a .book)) (a .firm))
+sound : (s : tie.Start) → let a = s .args in Sound (now (a .schedule)) (a .l) (cells (a .l .groups) (now (a .book)) (a .firm))
 sound s = record { checked = sized _ _ (s .pre .0 .checked) .schedule; within = s .pre .1 }
 
 fill-exempts-requires : tie.Need-fill-exempts-requires

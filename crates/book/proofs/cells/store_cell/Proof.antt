@@ -14,10 +14,11 @@ returns c =
     let a = c .before .args in
     let p : a .at + 1 ≡ suc (a .at) = omega arith in
     let q : a .at + 2 ≡ suc (suc (a .at)) = omega arith in
-    rw (p, q) (sets-eq (numbersOf (a .cell)) (a .book .now) (a .at) (c .before .pre))
+    let r : a .at + 3 ≡ suc (suc (suc (a .at))) = omega arith in
+    rw (p, q, r) (sets-eq (numbersOf (a .cell)) (a .book .now) (a .at) (c .before .pre))
 
 pub store-cell-spec : {M : Type 1} → statement M
 store-cell-spec =
     tie.close (tie.spec (λ c. search needs) (λ c. search needs) (λ c. search needs) (λ c. search needs)
-    (λ c. simp length-set (omega arith)) (λ c. search needs) (λ c. search needs) (λ c. simp length-set (omega arith))
-    (λ c. search needs) returns)
+    (λ c. simp length-set (omega arith)) (λ c. search needs) (λ c. search needs) (λ c. simp length-set (omega arith)) (λ c. search needs)
+    (λ c. search needs) (λ c. simp length-set (omega arith)) (λ c. search needs) returns)

@@ -11,8 +11,8 @@ use Rattle.filing.proofs.Told.{Located, told}
 use Rattle.book.specs.Book.{index}
 use Rattle.book.specs.Post.{indexOf}
 use Rattle.book.proofs.Checked.{sized}
-use Rattle.book.proofs.Admitted.{Admitted, admitted, admitted-inside}
-use Rattle.book.proofs.Answers.{stopped, passed-over, added}
+use Rattle.book.proofs.Taken.{Admitted, admitted, admitted-inside}
+use Rattle.book.proofs.Answers.{stopped, passed-over, goes-in}
 use Rattle.book.proofs.posting.post_checked.Statement.{statement}
 use Rattle.book.proofs.posting.post_checked.Tie as tie
 
@@ -23,7 +23,7 @@ start c = c .before .before .before .before
 abbrev filing : tie.After-known-told2 → tie.After-file
 filing c = c .before .before .before
 
--- in that arm it has a firm and a group, and passed 11 to 17
+-- in that arm it has a firm and a group, and passed 11 to 17 and 31
 module _ (c : tie.After-known-told2) where
   placed : let a = start (filing c) .args in let S = now (a .schedule) in let R = now (a .«record») in
       Located S (a .l) R (recordCauses S (a .l) R) (c .before .firm .given .0 .0) (c .before .firm .given .0 .1 .0)
@@ -52,9 +52,9 @@ cell-index-requires c κs =
     let p = passes k in
     (omega (arith, placed k .firm, p .firm), omega (arith, placed k .group, p .placed .group), omega (arith, c .byte-at .ensures, p .placed .first))
 
-add-requires : tie.Need-add-requires
-add-requires c κs =
-    let k = c .before .before in
+enter-requires : tie.Need-enter-requires
+enter-requires c κs =
+    let k = c .before in
     let s = start (filing (k .before .before)) in
     rw (at-is k) (omega (arith, admitted-inside _ _ _ (passes (k .before .before)), sized _ _ (s .pre) .room))
 
@@ -66,12 +66,11 @@ returns-2 c = let s = c .before .before in passed-over _ _ _ (start s .pre) (tol
 
 returns-3 : tie.Need-returns-3
 returns-3 c =
-    let total = c .before .before .before in
-    let k = total .before .before in
+    let k = c .before .before .before .before in
     let arm = k .before .before in
-    added _ _ _ (start (filing arm) .pre) (placed arm .passing) (at-is k) (rw (total .totals-of .ensures) at (c .before .before .add .ensures))
+    goes-in _ _ _ (start (filing arm) .pre) (placed arm .passing) (at-is k) (c .before .before .enter .ensures)
 
 pub post-checked-spec : {M : Type 1} → statement M
 post-checked-spec =
     tie.close (tie.spec (λ c κs. search needs) (λ c. search needs) (λ c. search needs) (λ c. search needs) (λ c κs. search needs)
-    cell-index-requires (λ c κs. search needs) add-requires returns returns-2 (λ c. search needs) returns-3)
+    cell-index-requires enter-requires returns returns-2 (λ c. search needs) returns-3)

@@ -7,4 +7,4 @@ pub excess-at-spec : {M : Type 1} → statement M
 excess-at-spec =
     tie.close (tie.spec (λ c. search needs) (λ c. search needs) (λ c. search needs) (λ c κs. search needs)
     (λ c κs. search needs) (λ c κs. search needs)
-    (λ c. rw (c .fits2 .ensures, c .before .days-in .ensures, c .before .before .totals-in .ensures)))
+    (λ c. rw (c .before .fits2 .ensures, c .before .before .days-in .ensures, c .before .before .before .cell-in .ensures)))

@@ -7,14 +7,14 @@ use borrow.Author.Tests.{lt-ltb, le-ltb}
 use Rattle.wire.specs.Choose.{seek, some}
 use Rattle.wire.proofs.Choose.{seek-hit, seek-next, seek-end}
 use Rattle.rules.specs.Marks.{places}
-use Rattle.book.specs.Book.{totalsIn}
+use Rattle.book.specs.Book.{cells}
 use Rattle.month.specs.Month.{isExcess, anyExcess}
 use Rattle.month.proofs.days.has_excess.Statement.{statement}
 use Rattle.month.proofs.days.has_excess.Tie as tie
 
 abbrev Inv-loop : tie.InvT-loop
 Inv-loop l book firm i₀ i =
-    (i ≤ places) × (seek 0 places (isExcess l (totalsIn (l .groups) book firm)) ≡ seek i places (isExcess l (totalsIn (l .groups) book firm)))
+    (i ≤ places) × (seek 0 places (isExcess l (cells (l .groups) book firm)) ≡ seek i places (isExcess l (cells (l .groups) book firm)))
 
 abbrev μ-loop : tie.MeasureT-loop
 μ-loop l book firm i₀ i = places - i

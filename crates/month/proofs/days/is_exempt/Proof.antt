@@ -12,7 +12,7 @@ use Rattle.rules.specs.Verdict.{fits, isViolation, isBenchmark, daysVerdict, da
 use Rattle.lookup.specs.InForce.{rulesOf}
 use Rattle.lookup.specs.Lookup.{groupAt}
 use Rattle.schedule.proofs.Found.{group-listed}
-use Rattle.book.specs.Book.{totalsIn}
+use Rattle.book.specs.Book.{cells, totalsIn}
 use Rattle.month.specs.Month.{terms}
 use Rattle.month.specs.Parts.{sumsTo, verdictIn}
 use Rattle.month.specs.declared.days.MonthSums.{MonthSums}
@@ -38,7 +38,7 @@ module _ (c : tie.After-days-verdict) where
   fit : let a = from .args in (day : ℕ) → counted (terms (now (a .schedule)) (a .l)) traffic (a .g) day ≡ true → fits 1 (traffic (a .g) day) ≡ true
   fit day e =
       let a = from .args in
-      cell-fits (now (a .schedule)) traffic (from .pre .1 .1) (a .g) day (from .pre .0) (and-left (inEffect (a .l .month) (a .l .closed) day) _ e)
+      cell-fits (now (a .schedule)) (cells (a .l .groups) (now (a .book)) (a .firm)) (from .pre .1 .1) (a .g) day (from .pre .0) (and-left (inEffect (a .l .month) (a .l .closed) day) _ e)
 
   -- it is the verdict on the group's sums
   decided : let a = from .args in

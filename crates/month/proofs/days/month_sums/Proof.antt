@@ -9,7 +9,7 @@ use Rattle.wire.proofs.Bools.{and-left}
 use Rattle.rules.specs.Month.{DailyTotals, counted}
 use Rattle.rules.specs.Verdict.{fits}
 use Rattle.calendar.specs.Calendar.{inEffect}
-use Rattle.book.specs.Book.{totalsIn}
+use Rattle.book.specs.Book.{cells, totalsIn}
 use Rattle.month.specs.Parts.{sumsTo}
 use Rattle.month.specs.Month.{terms}
 use Rattle.month.proofs.Exempt.{cell-fits, sums-none, sums-more, sums-within}
@@ -24,22 +24,24 @@ abbrev μ-loop : tie.MeasureT-loop
 
 with-cell-requires : tie.Need-with-cell-requires Inv-loop μ-loop
 with-cell-requires c κs =
-    let l = c .before .before .before .before in
+    let t = c .before .before in
+    let l = t .before .before .before in
     let s = l .before .before .before in
     let a = s .args in
     let f : DailyTotals = totalsIn (a .l .groups) (a .book .now) (a .firm) in
     let fit : (day : ℕ) → counted (terms (a .schedule .now) (a .l)) f (a .group) day ≡ true → fits 1 (f (a .group) day) ≡ true
-    = λ day e. cell-fits (a .schedule .now) f (s .pre .1) (a .group) day (s .pre .0) (and-left (inEffect (a .l .month) (a .l .closed) day) _ e) in
+    = λ day e. cell-fits (a .schedule .now) (cells (a .l .groups) (a .book .now) (a .firm)) (s .pre .1) (a .group) day (s .pre .0) (and-left (inEffect (a .l .month) (a .l .closed) day) _ e) in
     let w = sums-within (terms (a .schedule .now) (a .l)) f (a .group) fit (l .loop .d) in (
       rw (l .loop .inv .1) (record { raw = omega (arith, w .raw); score = omega (arith, w .score); lots = omega (arith, w .lots); days = omega (arith, w .days) }),
-      rw (c .before .in-effect .ensures, c .before .before .totals-in .ensures) (fit (l .loop .d + 1)),
+      rw (c .before .in-effect .ensures, t .before .cell-in .ensures) (fit (l .loop .d + 1)),
     )
 
 loop-again : tie.Need-loop-again Inv-loop μ-loop
 loop-again c =
-    let l = c .before .before .before .before .before in (
+    let t = c .before .before .before in
+    let l = t .before .before .before in (
       search needs,
-      rw (c .with-cell .ensures, c .before .before .in-effect .ensures, c .before .before .before .totals-in .ensures, l .loop .inv .1, sums-more),
+      rw (c .with-cell .ensures, c .before .before .in-effect .ensures, t .before .cell-in .ensures, l .loop .inv .1, sums-more),
     )
 
 returns : tie.Need-returns Inv-loop μ-loop

@@ -9,7 +9,8 @@ use Rattle.wire.proofs.Bools.{yes, no}
 use Rattle.rules.specs.Verdict.{daysVerdict, daysMeaning}
 use Rattle.rules.specs.Marks.{verdictAt}
 use Rattle.lookup.specs.InForce.{rulesOf}
-use Rattle.book.specs.Book.{totalsIn}
+use Rattle.cell.specs.declared.Cell.{Cell}
+use Rattle.book.specs.Book.{cells, totalsIn}
 use Rattle.month.specs.Month.{terms}
 use Rattle.month.specs.Parts.{verdictIn}
 use Rattle.month.proofs.Exempt.{verdict-place}
@@ -18,7 +19,7 @@ use Rattle.month.proofs.days.place_verdict.Tie as tie
 
 -- where the test of group and day stands, and the start
 abbrev test : tie.After-days-verdict → tie.Else1
-test c = c .before .before .before .before
+test c = c .before .before .before .before .before
 
 abbrev start : tie.Else1 → tie.Start
 start c = c .before .before .before .before .before
@@ -32,8 +33,9 @@ is-place c =
     let a = s .args in
     let listed = yes (ap (λ b. ltb (a .i % 32) (a .l .groups) && b) (t .before .in-effect .ensures)) (t .if1 .left) in
     ap verdictIn (c .days-verdict .ensures)
-    ∙ ap₂ (λ t B. verdictIn (daysVerdict 1 t B)) (c .before .totals-in .ensures) (ap (λ g. g .benchmark) (c .before .before .before .group-of .ensures))
-    ∙ verdict-place (now (a .schedule)) (totalsIn (a .l .groups) (now (a .book)) (a .firm)) (s .pre .1 .1) (a .i) listed
+    ∙ ap₂ (λ t B. verdictIn (daysVerdict 1 t B)) (ap (λ (e : Cell). e .totals) (c .before .before .cell-in .ensures))
+    (ap (λ g. g .benchmark) (c .before .before .before .before .group-of .ensures))
+    ∙ verdict-place (now (a .schedule)) (cells (a .l .groups) (now (a .book)) (a .firm)) (s .pre .1 .1) (a .i) listed
 
 returns : tie.Need-returns
 returns c =

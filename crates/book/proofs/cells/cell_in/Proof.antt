@@ -1,7 +1,7 @@
--- The test is that of the definition: where it fails there are no totals, and else the cell is read at its index, which is small.
+-- The test is that of the definition: where it fails the cell is empty, and else it is read at its index, which is small.
 use Prim.Native.Nat.{_≤_}
 use mathlib.Core.Bool.{true, false, _&&_}
-use mathlib.Core.Path.{_≡_, ap}
+use mathlib.Core.Path.{_≡_}
 use native.Mathlib.Nat.{mul-le-mul}
 use native.Mathlib.Omega.{arith}
 use lib.Dec.{ltb}
@@ -9,10 +9,9 @@ use borrow.Author.Needs.{needs}
 use borrow.Author.Tests.{not-true, not-false}
 use Rattle.wire.specs.Choose.{within}
 use Rattle.wire.proofs.Bools.{and-right, range}
-use Rattle.book.specs.Book.{totalsIn}
-use Rattle.book.specs.declared.cells.Cell.{Cell}
-use Rattle.book.proofs.cells.totals_in.Statement.{statement}
-use Rattle.book.proofs.cells.totals_in.Tie as tie
+use Rattle.book.specs.Book.{cells}
+use Rattle.book.proofs.cells.cell_in.Statement.{statement}
+use Rattle.book.proofs.cells.cell_in.Tie as tie
 
 -- past the test the cell has a place
 there : (c : tie.Else1) → let a = c .before .before .args in (ltb (a .group) (a .groups) && within 1 31 (a .day)) ≡ true
@@ -22,7 +21,7 @@ returns : tie.Need-returns
 returns c =
     let a = c .before .before .args in
     let e : (ltb (a .group) (a .groups) && within 1 31 (a .day)) ≡ false = not-true _ (c .if1 .taken) in
-    rw (totalsIn, e)
+    rw (cells, e)
 
 cell-index-requires : tie.Need-cell-index-requires
 cell-index-requires c κs =
@@ -39,8 +38,7 @@ cell-at-requires c κs =
 
 returns-2 : tie.Need-returns-2
 returns-2 c =
-    rw (totalsIn, there (c .before .before .before), ← c .before .before .cell-index .ensures)
-    (ap (λ (e : Cell). e .totals) (c .before .cell-at .ensures))
+    rw (cells, there (c .before .before), ← c .before .cell-index .ensures) (c .cell-at .ensures)
 
-pub totals-in-spec : {M : Type 1} → statement M
-totals-in-spec = tie.close (tie.spec returns cell-index-requires cell-at-requires returns-2)
+pub cell-in-spec : {M : Type 1} → statement M
+cell-in-spec = tie.close (tie.spec returns cell-index-requires cell-at-requires returns-2)

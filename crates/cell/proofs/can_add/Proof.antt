@@ -1,8 +1,8 @@
 -- The three tests are those of the definition, in its order.
 use borrow.Author.Needs.{needs}
 use Rattle.wire.proofs.Choose.{and-all}
-use Rattle.book.proofs.posting.can_add.Statement.{statement}
-use Rattle.book.proofs.posting.can_add.Tie as tie
+use Rattle.cell.proofs.can_add.Statement.{statement}
+use Rattle.cell.proofs.can_add.Tie as tie
 
 pub can-add-spec : {M : Type 1} → statement M
 can-add-spec =

@@ -6,8 +6,8 @@ use native.Mathlib.Omega.{arith}
 use lib.Dec.{leb}
 use borrow.Author.Tests.{lt-leb, le-leb, leb-true, leb-false}
 use Rattle.rules.specs.Verdict.{limit}
-use Rattle.book.proofs.posting.has_room.Statement.{statement}
-use Rattle.book.proofs.posting.has_room.Tie as tie
+use Rattle.cell.proofs.has_room.Statement.{statement}
+use Rattle.cell.proofs.has_room.Tie as tie
 
 returns : tie.Need-returns
 returns c = sym (lt-leb (c .before .args .held + c .before .args .more) limit (omega arith))
