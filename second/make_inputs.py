@@ -6,10 +6,10 @@
 import random
 import sys
 
-from make_cases import Script, activity, firm, group, head
-from make_months import (CELLS, codes, day_totals, dense_month, full_cell, odd_record, put_in, quiet_month, random_group,
-                         shape, trade, whole_month)
-from mep_second import LIMIT, le, output_need
+from make_cases import Script, activity, correction, firm, group, head
+from make_months import (CELLS, POSTED, TOP, codes, day_totals, dense_month, full_cell, odd_record, other_totals, put_in,
+                         quiet_month, random_group, shape, trade, whole_month)
+from mep_second import LIMIT, le, output_need, per_firm_group, width
 
 ROOM = 65_536           # bytes that mep-statement takes
 SCRIPT_ROOM = 262_144   # bytes of a script that cases takes
@@ -39,7 +39,7 @@ def limit(r):
 
 def crowded(r):
     """About as many firm-groups as the book fits, or many more."""
-    sizes = ((1, 88), (1, 89), (1, 89), (2, 44), (3, 29), (3, 30), (8, 11), (9, 10), (11, 8), (32, 3), (4, 200))
+    sizes = ((1, 66), (1, 67), (1, 67), (2, 33), (2, 34), (3, 22), (3, 23), (6, 11), (11, 6), (32, 2), (32, 3), (4, 200))
     return trade(r, quiet_month(r, *r.choice(sizes)), 8_000).bytes()
 
 
@@ -56,11 +56,12 @@ def of_size(r, size):
     month = trade(r, quiet_month(r, r.randint(1, 3), r.randint(1, 3)), r.choice((0, 50_000)))
     g = month.groups[0]
     usual = activity(month.firms[0], 1, g.code, g.listed[0], (3, 2, 1, 1, 0, 0, 0, 1))
-    more = r.choice((usual, usual, firm(b"ABC"), le(4, 2) + le(r.choice((4, 9)), 2)))
+    corrected = correction(month.firms[0], r.choice((1, 2)), g.code, r.choice((1, 2, TOP)), other_totals(r, g.benchmark))
+    more = r.choice((usual, usual, corrected, corrected + usual, firm(b"ABC"), le(4, 2) + le(r.choice((4, 8, 9)), 2)))
     data = month.bytes()
     data += more * ((size - len(data)) // len(more))
     rest = size - len(data)
-    return data + (le(rest, 2) + le(r.choice((4, 9)), 2) + bytes(rest))[:rest]
+    return data + (le(rest, 2) + le(r.choice((4, 8, 9)), 2) + bytes(rest))[:rest]
 
 
 def just_fitting(r):
@@ -73,10 +74,12 @@ def too_long(r):
 
 def noise(r):
     """Records of any kind with any body, after a good beginning or none."""
-    data = r.choice((b"", head(), head() + group(), head() + group() + firm(), head() + group() + firm() + activity()))
+    good = head() + group() + firm()
+    data = r.choice((b"", head(), head() + group(), good, good + activity(), good + correction()))
     for _ in range(r.randrange(6)):
-        any_header = r.randrange(50), r.randrange(6)
-        size, kind = r.choice(((10, 1), (18, 2), (20, 2), (7, 3), (44, 4), (44, 4), (4, 5), any_header))
+        any_header = r.randrange(50), r.randrange(10)
+        posted = [(size, kind) for kind, size in POSTED.items()]
+        size, kind = r.choice(((10, 1), (18, 2), (20, 2), (7, 3), *posted, *posted, (4, 5), any_header))
         data += le(size, 2) + le(kind, 2) + bytes(r.choices(b"AZ09\x00\x01\x02\x5e\xaf\xff", k=max(0, size - 4)))
     return data + random_bytes(r, r.choice((0, 0, r.randrange(9))))
 
@@ -132,17 +135,18 @@ def changed(r, month, offset, values):
 
 
 def changed_length(r, month):
-    return changed(r, month, 0, (0, 1, 2, 3, 3, 4, 5, 7, 10, 18, 20, 43, 44, 45, 88, r.randrange(3_000), 65_535))
+    sizes = (0, 1, 2, 3, 3, 4, 5, 7, 10, 18, 20, 31, 32, 33, 43, 44, 45, 88, r.randrange(3_000), 65_535)
+    return changed(r, month, 0, sizes)
 
 
 def changed_kind(r, month):
-    return changed(r, month, 2, (0, 1, 2, 3, 4, 5, 16, 260, 1_025, 65_535))
+    return changed(r, month, 2, (0, 1, 2, 3, 4, 5, 8, 8, 16, 260, 264, 1_025, 65_535))
 
 
 def changed_bytes(r, month, end):
     data = bytearray(month.bytes())
     for _ in range(r.randint(1, 3)):
-        data[r.randrange(end)] = r.choice((0, 1, 2, 3, 4, 10, 44, 255, r.randrange(256)))
+        data[r.randrange(end)] = r.choice((0, 1, 2, 3, 4, 8, 10, 32, 44, 255, r.randrange(256)))
     return bytes(data)
 
 
@@ -167,18 +171,20 @@ def with_tail(r, month):
 def late_records(r, month):
     """Records of the schedule's kinds and unknown ones after the activity began."""
     start = month.schedule() + [odd_record(r, month)]
-    late = [r.choice((*month.schedule(), firm(*codes(r, 3, 1)), le(4, 2) + le(r.choice((0, 3, 4, 5)), 2),
-                      le(5, 2) + le(9, 2) + b"x", le(44, 2) + le(r.choice((0, 3, 5, 260)), 2) + bytes(40)))
+    late = [r.choice((*month.schedule(), firm(*codes(r, 3, 1)), le(4, 2) + le(r.choice((0, 3, 4, 5, 8)), 2),
+                      le(5, 2) + le(9, 2) + b"x", le(44, 2) + le(r.choice((0, 3, 5, 8, 260)), 2) + bytes(40),
+                      le(32, 2) + le(r.choice((0, 3, 4, 5, 8, 264)), 2) + bytes(28)))
             for _ in range(r.randint(1, 5))]
     put_in(r, month.activity, late)
     return b"".join(start + month.activity)
 
 
 def bad_first(r, month):
-    """The activity begins with a record of kind 4 whose length is not 44, mostly at its due place."""
+    """The activity begins with a record of kind 4 or 8 whose length is not its own, mostly at its due place."""
     records = month.schedule()
-    size = r.choice((0, 1, 2, 3, 4, 5, 43, 45, 46, 88, 65_535))
-    first = le(size, 2) + le(4, 2) + random_bytes(r, r.choice((0, max(0, min(size, 88) - 4), r.randrange(60))))
+    kind, own = r.choice(sorted(POSTED.items()))
+    size = r.choice([n for n in (0, 1, 2, 3, 4, 5, 31, 32, 33, 43, 44, 45, 46, 88, 65_535) if n != own])
+    first = le(size, 2) + le(kind, 2) + random_bytes(r, r.choice((0, max(0, min(size, 88) - 4), r.randrange(60))))
     records.insert(r.choice((len(records), len(records), r.randint(0, len(records)))), first)
     return b"".join(records + month.activity)
 
@@ -223,10 +229,11 @@ def split_month(seed, number):
     no month begins with one.
     """
     month = whole_month(random.Random("split %d %d" % (seed, number)), 50_000)
-    while month.activity and month.activity[0][2:4] != le(4, 2):
+    kinds, sizes = {le(kind, 2) for kind in POSTED}, {le(size, 2) + le(kind, 2): size for kind, size in POSTED.items()}
+    while month.activity and month.activity[0][2:4] not in kinds:
         month.activity.pop(0)
     common = b"".join(month.schedule()[:1 + len(month.groups)])
-    posts = [r for r in month.activity if len(r) == 44 and r[:4] == le(44, 2) + le(4, 2)]
+    posts = [r for r in month.activity if len(r) == sizes.get(r[:4])]
     own = {code: b"".join(r for r in posts if r[4:7] == code) for code in month.firms}
     return month.bytes(), [(code, common + firm(code) + own[code]) for code in month.firms]
 
@@ -248,15 +255,24 @@ def verdict_numbers(r):
     return *totals, r.choice((1_000,) * 8 + (0, 1, 100_000, 100_001, 2 ** 64 - 1, r.randrange(1, 100_001)))
 
 
+def spoilt_cell(r):
+    """The numbers of a cell, as mostly no post leaves them."""
+    totals = [r.choice((0, 70_000, 70_000, 10 ** 7, LIMIT, LIMIT + 1, 2 ** 64 - 1)) for _ in range(width() - 1)]
+    return totals + [r.choice((0, 0, 0, 1, 2, 2 ** 32, LIMIT, LIMIT + 1, 2 ** 64 - 1))]
+
+
 def spoil(r, script, month, size):
-    """Writes a cell that no post leaves so, on any day, and posts nothing or little to it."""
+    """Spoils a cell, on any day, and posts to it activity of nothing or little, a correction or both."""
     f, g, day = r.randrange(len(month.firms)), r.randrange(len(month.groups)), r.randint(1, 31)
-    at = ((f * len(month.groups) + g) * 31 + day - 1) * 3
-    for i in range(at, min(size, at + 3)):
-        script.write(i, r.choice((0, 70_000, 70_000, 10 ** 7, LIMIT, LIMIT + 1, 2 ** 64 - 1)))
+    at = ((f * len(month.groups) + g) * 31 + day - 1) * width()
+    for i, n in enumerate(spoilt_cell(r)[:max(0, size - at)], at):
+        script.write(i, n)
     little = r.choice(((0,) * 8, (1,) + (0,) * 7, (0, 1) + (0,) * 6, (0,) * 7 + (1,)))
-    group = month.groups[g]
-    script.post(activity(month.firms[f], day, group.code, r.choice(group.traded()), little))
+    code, group = month.firms[f], month.groups[g]
+    posts = [activity(code, day, group.code, r.choice(group.traded()), little),
+             correction(code, day, group.code, r.choice((1, 2, 3, TOP)), other_totals(r, group.benchmark))]
+    for record in r.choice((posts[:1], posts[1:], posts, posts[::-1])):
+        script.post(record)
 
 
 def month_calls(r):
@@ -264,14 +280,15 @@ def month_calls(r):
     month = dense_month(r) if r.random() < .05 else whole_month(r, r.choice((1_000, 5_000, 12_000)))
     if r.random() < .2:
         put_in(r, month.activity, full_cell(r, month))
-    need = 93 * len(month.groups) * len(month.firms)
-    size = min(BOOK_ROOM, need + r.choice((0,) * 12 + (1, 93, -1, -need)))
+    need = per_firm_group() * len(month.groups) * len(month.firms)
+    size = min(BOOK_ROOM, need + r.choice((0,) * 12 + (1, per_firm_group(), -1, -need)))
     script = Script()
     script.schedule(b"".join(month.schedule()))
     script.book(size)
     script.open()
     for record in month.activity:
-        script.post(record[:r.choice((44,) * 40 + (0, 3, 4, 43))])
+        own = len(record)
+        script.post((record + b"\0")[:r.choice((own,) * 40 + (0, 3, 4, own - 1, own + 1))])
     for _ in range(r.choice((0, 0, 0, 1, 3))):
         spoil(r, script, month, size)
     script.digest()
@@ -288,7 +305,7 @@ def schedule_calls(r):
     month = quiet_month(r, *shape(r))
     script = Script()
     script.schedule(DAMAGED[r.choice(("faulty schedule", *DAMAGED))](r, month))
-    script.book(93 * CELLS)
+    script.book(per_firm_group() * CELLS)
     script.open()
     return script.bytes
 

@@ -4,12 +4,12 @@
     make_sample.py > samples/october-2019.bin
     mep_second.py < samples/october-2019.bin > samples/october-2019.txt
 
-It shows all four marks, both exchange groupings, a refused record and records that lie outside. The same bytes come out
-every time.
+It shows all four marks, both exchange groupings, a correction, refused records and records that lie outside. The same bytes
+come out every time.
 """
 import sys
 
-from make_cases import activity, firm, group, head
+from make_cases import activity, correction, firm, group, head
 
 OCTOBER_2019 = 2019 * 12 + 9
 WEEKENDS = (5, 6, 12, 13, 19, 20, 26, 27)
@@ -49,20 +49,34 @@ ACTIVITY = (
     (b"K7M", 1, b"CL", 24_245, (25_000, 50_000, 13_000, 2_000, 6, 6, 0, 30_000)),
     (b"K7M", 3, b"CL", 24_238, (30_000, 30_000, 18_000, 2_000, 0, 0, 400, 8_000)),
     (b"K7M", 3, b"CL", 24_360, (200, 150, 90, 0, 0, 0, 0, 15)),
-    # In NG Saturday the 5th lies outside; of three failed days, the 11th in the extra contract, April 2020, two are waived
-    # and the 22nd is billed; the 23rd is severe.
+    # In NG Saturday the 5th lies outside; of four failed days, the 11th in the extra contract, April 2020, two are waived
+    # and the 16th and the 22nd are billed; the 23rd is severe. The report of the 16th lacks a contract: not judged.
     (b"K7M", 4, b"NG", 24_238, (20_000, 15_000, 14_000, 1_000, 0, 0, 0, 4_000)),
     (b"K7M", 5, b"NG", 24_238, (9_000, 4_000, 11_000, 1_000, 0, 0, 0, 0)),
     (b"K7M", 11, b"NG", 24_243, (14_000, 16_000, 10_500, 700, 12, 12, 0, 2_900)),
+    (b"K7M", 16, b"NG", 24_238, (7_000, 6_000, 2_700, 300, 0, 0, 0, 700)),
     (b"K7M", 22, b"NG", 24_239, (11_000, 9_000, 9_500, 500, 0, 0, 0, 1_200)),
     (b"K7M", 23, b"NG", 24_240, (20_000, 10_500, 28_000, 2_000, 0, 0, 0, 300)),
+)
+
+# Firm, day, group, edition, then raw, score and lots.
+CORRECTIONS = (
+    # K7M's 16th in NG with both contracts: it fails.
+    (b"K7M", 16, b"NG", 1, (34_000, 29_000, 1_500)),
+)
+
+# Activity after the corrections.
+LATE = (
+    # The other contract of K7M's 16th in NG, which the correction has: refused 32.
+    (b"K7M", 16, b"NG", 24_239, (8_000, 8_000, 1_800, 200, 0, 0, 0, 800)),
 )
 
 
 def october_2019():
     closed = sum(1 << day - 1 for day in WEEKENDS)
     schedule = [head(OCTOBER_2019, closed), *(group(*g) for g in GROUPS), *map(firm, FIRMS)]
-    return b"".join(schedule + [activity(*row) for row in ACTIVITY])
+    posts = [activity(*row) for row in ACTIVITY] + [correction(*row) for row in CORRECTIONS]
+    return b"".join(schedule + posts + [activity(*row) for row in LATE])
 
 
 if __name__ == "__main__":
