@@ -17,6 +17,7 @@ activityKind = 4
 abbrev pub activityLength : ℕ
 activityLength = 44
 
+-- Records: a record whose kind is 4
 abbrev pub isActivity : (R : List ℕ) → Bool
 isActivity R = eqb (kindAt R 0) activityKind
 

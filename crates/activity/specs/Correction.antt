@@ -17,6 +17,7 @@ correctionKind = 8
 abbrev pub correctionLength : ℕ
 correctionLength = 32
 
+-- 2.3: a record whose kind is 8
 abbrev pub isCorrection : (R : List ℕ) → Bool
 isCorrection R = eqb (kindAt R 0) correctionKind
 
