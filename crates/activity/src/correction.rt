@@ -17,7 +17,7 @@ const RAW: usize = 16;
 
 const SCORE: usize = 20;
 
-const CORRECTED_LOTS: usize = 24;
+const LOTS: usize = 24;
 
 const ZERO_32: usize = 28;
 
@@ -43,7 +43,7 @@ pub fn correction_fields(record: &[u8]) -> Correction
     let totals = Totals {
         raw: u32_at(record, RAW) as u64,
         score: u32_at(record, SCORE) as u64,
-        lots: u32_at(record, CORRECTED_LOTS) as u64,
+        lots: u32_at(record, LOTS) as u64,
     };
     Correction {
         zero16: u16_at(record, ZERO_16),

@@ -1,6 +1,5 @@
 // Where the cells stand in the book, and how many numbers it needs.
 use cell::Cell;
-use cell::EMPTY;
 use lookup::Layout;
 use rules::Totals;
 use schedule::Checked;
@@ -55,6 +54,16 @@ pub(crate) fn cell_at(book: &[u64], at: usize) -> Cell
         edition: number_at(book, at + 3),
     }
 }
+
+// A cell as open leaves it.
+const EMPTY: Cell = Cell {
+    totals: Totals {
+        raw: 0,
+        score: 0,
+        lots: 0,
+    },
+    edition: 0,
+};
 
 // A firm's cell: empty past the groups, and on a day outside 1 to 31.
 pub fn cell_in(book: &[u64], groups: u8, firm: u8, group: u8, day: u8) -> Cell

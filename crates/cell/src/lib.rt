@@ -19,16 +19,6 @@ pub struct Cell {
     pub edition: u64,
 }
 
-// A cell as open leaves it.
-pub const EMPTY: Cell = Cell {
-    totals: Totals {
-        raw: 0,
-        score: 0,
-        lots: 0,
-    },
-    edition: 0,
-};
-
 // A refusal's number, or the cell after the record.
 pub enum Entry {
     Refused(u8),
