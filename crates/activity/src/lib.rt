@@ -10,7 +10,9 @@ use rules::Totals;
 use wire::u16_at;
 use wire::u32_at;
 ghost use mathlib.Core.Path.{_≡_};
-ghost use Rattle.activity.specs.Activity.{isActivity, totalsOf};
+ghost use Prim.Native.Nat.{_<_, _^_};
+ghost use Rattle.activity.specs.Activity.{isActivity, rawCount, weighted, factorTable, score, totalsOf};
+ghost use Rattle.wire.specs.Bytes.{u32At};
 
 const ACTIVITY_KIND: u16 = 4;
 
@@ -50,21 +52,53 @@ pub fn is_activity(record: &[u8]) -> bool
     u16_at(record, 2) == ACTIVITY_KIND
 }
 
+// The count of messages or lots at an offset.
+fn count_at(record: &[u8], at: usize) -> u64
+    ensures { λ r. ⌜ (r ≡ u32At (now («record» .entry)) at) × (r < 2 ^ 32) ⌝ }
+{
+    u32_at(record, at) as u64
+}
+
+// The Program, section 2: the raw message count. FAK and FOK orders are its eliminations.
+fn raw_count(record: &[u8]) -> u64
+    ensures { λ r. ⌜ r ≡ rawCount (now («record» .entry)) ⌝ }
+{
+    count_at(record, NEW_ORDERS)
+        + count_at(record, MODIFICATIONS)
+        + count_at(record, CANCELLATIONS)
+        + count_at(record, FAK_FOK)
+}
+
+// The Program, section 2: the messaging score, each count times its factor, step by step in the order of the section's text. New orders have
+// the factor 0, and no step.
+fn messaging_score(record: &[u8]) -> u64
+    ensures { λ r. ⌜ r ≡ score (now («record» .entry)) ⌝ }
+{
+    let mut score: u64 = 0;
+    score += count_at(record, MODIFICATIONS) * 1; // Order Modification
+    score += count_at(record, CANCELLATIONS) * 3; // Order Cancellation
+    score += count_at(record, MASS_REQUESTS) * 3; // Order Mass Action Request
+    score += count_at(record, MASS_REPORTS) * 3; // Order Mass Action Report
+    score += count_at(record, FAK_FOK) * 3; // TimeInForce: FAK or FOK order types
+    score += count_at(record, MINIMUM_QUANTITY) * 3; // MinQty
+    score
+}
+
+// The totals of a record whose raw count and score are given.
+fn with_lots(record: &[u8], raw: u64, score: u64) -> Totals
+    requires { ⌜ (raw ≡ rawCount (now «record»)) × (score ≡ weighted factorTable (now «record»)) ⌝ }
+    ensures { λ r. ⌜ r ≡ totalsOf (now («record» .entry)) ⌝ }
+{
+    Totals {
+        raw,
+        score,
+        lots: count_at(record, LOTS),
+    }
+}
+
 // What an activity record adds to its cell.
 pub fn totals_of(record: &[u8]) -> Totals
     ensures { λ r. ⌜ r ≡ totalsOf (now («record» .entry)) ⌝ }
 {
-    let new_orders = u32_at(record, NEW_ORDERS) as u64;
-    let modifications = u32_at(record, MODIFICATIONS) as u64;
-    let cancellations = u32_at(record, CANCELLATIONS) as u64;
-    let fak_fok = u32_at(record, FAK_FOK) as u64;
-    let mass_requests = u32_at(record, MASS_REQUESTS) as u64;
-    let mass_reports = u32_at(record, MASS_REPORTS) as u64;
-    let minimum_quantity = u32_at(record, MINIMUM_QUANTITY) as u64;
-    Totals {
-        raw: new_orders + modifications + cancellations + fak_fok,
-        score: modifications
-            + 3 * (cancellations + fak_fok + mass_requests + mass_reports + minimum_quantity),
-        lots: u32_at(record, LOTS) as u64,
-    }
+    with_lots(record, raw_count(record), messaging_score(record))
 }
