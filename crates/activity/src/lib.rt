@@ -11,7 +11,7 @@ use wire::u16_at;
 use wire::u32_at;
 ghost use mathlib.Core.Path.{_≡_};
 ghost use Prim.Native.Nat.{_<_, _^_};
-ghost use Rattle.activity.specs.Activity.{isActivity, rawCount, weighted, factorTable, score, totalsOf};
+ghost use Rattle.activity.specs.Activity.{isActivity, rawCount, score, totalsOf};
 ghost use Rattle.wire.specs.Bytes.{u32At};
 
 const ACTIVITY_KIND: u16 = 4;
@@ -80,18 +80,18 @@ fn messaging_score(record: &[u8]) -> u64
     score += count_at(record, MASS_REQUESTS) * 3; // Order Mass Action Request
     score += count_at(record, MASS_REPORTS) * 3; // Order Mass Action Report
     score += count_at(record, FAK_FOK) * 3; // TimeInForce: FAK or FOK order types
-    score += count_at(record, MINIMUM_QUANTITY) * 3; // MinQty
+    score += count_at(record, MINIMUM_QUANTITY) * 3; // MinQty: in the table, not in the formula (document 02, 2.2)
     score
 }
 
-// The totals of a record whose raw count and score are given.
-fn with_lots(record: &[u8], raw: u64, score: u64) -> Totals
-    requires { ⌜ (raw ≡ rawCount (now «record»)) × (score ≡ weighted factorTable (now «record»)) ⌝ }
+// The totals of a record, from its own raw count and score.
+fn with_lots(record: &[u8], raw: u64, scored: u64) -> Totals
+    requires { ⌜ (raw ≡ rawCount (now «record»)) × (scored ≡ score (now «record»)) ⌝ }
     ensures { λ r. ⌜ r ≡ totalsOf (now («record» .entry)) ⌝ }
 {
     Totals {
         raw,
-        score,
+        score: scored,
         lots: count_at(record, LOTS),
     }
 }
