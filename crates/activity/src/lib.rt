@@ -69,8 +69,8 @@ fn raw_count(record: &[u8]) -> u64
         + count_at(record, FAK_FOK)
 }
 
-// The Program, section 2: the messaging score, each count times its factor, step by step in the order of the section's text. New orders have
-// the factor 0, and no step.
+// The Program, section 2: the messaging score, each count times its factor, step by step in the order of the section's text. New orders,
+// whose factor is 0, have no step.
 fn messaging_score(record: &[u8]) -> u64
     ensures { λ r. ⌜ r ≡ score (now («record» .entry)) ⌝ }
 {
