@@ -1,4 +1,6 @@
 // Months, their days, and the days in effect.
+#![tactic(auto)]
+
 ghost use Rattle.std.specs.Prelude.{◌≡◌};
 ghost use Rattle.calendar.specs.Calendar.{is_month, is_leap_february, days_in, in_effect};
 

@@ -1,5 +1,7 @@
 // Little-endian numbers of a byte string, the cut of a run of records, small tests of numbers, and a fill of numbers. Every reader is
 // total: past the end stand zeros.
+#![tactic(auto)]
+
 ghost use Rattle.std.specs.Prelude.{◌≡◌, ◌≤◌, min, length, get_or};
 ghost use Rattle.wire.specs.Bytes.{u16_at, u32_at};
 ghost use Rattle.wire.specs.Choose.{within};
