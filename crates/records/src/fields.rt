@@ -8,7 +8,7 @@ use rules::is_benchmark;
 use wire::{byte_at, u16_at, u32_at, within};
 
 // A head's fields: the month's number, and the days that are not in effect.
-#[derive(Drop)]
+#[derive(Clone, Copy)]
 pub struct Head {
     pub month: u16,
     pub closed: u32,
@@ -16,7 +16,7 @@ pub struct Head {
 
 // A group's fields: the two letters of its code, its exchange grouping, k (how many contracts of the front mask are counted), its
 // benchmark, and the two masks.
-#[derive(Drop)]
+#[derive(Clone, Copy)]
 pub struct Group {
     pub first: u8,
     pub second: u8,
@@ -28,7 +28,7 @@ pub struct Group {
 }
 
 // A firm's fields: the three letters of its code.
-#[derive(Drop)]
+#[derive(Clone, Copy)]
 pub struct Firm {
     pub first: u8,
     pub second: u8,

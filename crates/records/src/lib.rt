@@ -1,4 +1,6 @@
 // The records of a schedule: their bodies, and the fields of heads, groups and firms with their ranges.
+#![tactic(auto)]
+
 mod bodies;
 mod fields;
 
