@@ -22,7 +22,7 @@ const LOTS: usize = 24;
 const ZERO_32: usize = 28;
 
 // What a correction says beside its firm, day and group: the edition, the totals that the cell is set to, and two fields that must be zero.
-#[derive(Drop)]
+#[derive(Clone, Copy)]
 pub struct Correction {
     pub zero16: u16,
     pub edition: u32,

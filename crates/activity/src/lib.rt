@@ -1,4 +1,6 @@
 // The posted records. Here the activity record: its kind, its length, where its fields stand, and what it adds to its cell.
+#![tactic(auto)]
+
 mod correction;
 
 ghost use Rattle.std.specs.Prelude.{◌≡◌, ◌+◌, ◌<◌, ◌^◌};
