@@ -7,7 +7,7 @@ use lib.Dec.{eqb}
 use borrow.Author.Tests.{eqb-true, eqb-false, ne_eqb}
 use Rattle.wire.specs.Choose.{choose}
 use Rattle.contracts.specs.Counted.{counted, contract_listed, contract_counted, status_of}
-use Rattle.contracts.proofs.Status.{says_listed, says_counted, status_listed, status_counted}
+use Rattle.contracts.proofs.Statuses.{says_listed, says_counted, status_listed, status_counted}
 use Rattle.lookup.specs.declared.Layout.{Layout}
 use Rattle.activity.specs.Activity.{is_activity, contract_of}
 use Rattle.filing.specs.Causes.{firm_place_of, group_place_of, is_counted_record}

@@ -17,7 +17,7 @@ use records::body_at;
 use wire::{byte_at, u16_at};
 
 // A refusal's number, or outside, or the places of the firm and the group whose cell the record is counted in.
-#[derive(Drop)]
+#[derive(Clone, Copy)]
 pub enum Filed {
     Refused(u8),
     Outside,

@@ -13,7 +13,7 @@ use Rattle.calendar.specs.Calendar.{days_in}
 use Rattle.contracts.specs.Counted.{status_meaning, contract_listed, contract_counted}
 use Rattle.contracts.specs.declared.counted.Status.{Status}
 use Rattle.contracts.specs.declared.counted.Status.TheVariants as kind
-use Rattle.contracts.proofs.Status.{says_listed, says_counted}
+use Rattle.contracts.proofs.Statuses.{says_listed, says_counted}
 use Rattle.activity.specs.Activity.{is_activity, day, contract_of}
 use Rattle.filing.specs.Causes.{group_body}
 use Rattle.filing.specs.Filing.{contract_taken}
