@@ -1,4 +1,6 @@
 // Where the groups and firms of a schedule stand, which of them has a code, and the Program's constants in force.
+#![tactic(auto)]
+
 ghost use Rattle.std.specs.Prelude.{◌≡◌};
 ghost use Rattle.records.specs.Bodies.{rest_at, body_at};
 ghost use Rattle.records.specs.Fields.{group_fields, firm_fields};
@@ -11,7 +13,7 @@ use wire::u16_at;
 
 // What a good schedule holds, and where: the month's number, the days that are not in effect, the offset of the first group and how many
 // there are, the offset of the first firm and how many there are.
-#[derive(Drop)]
+#[derive(Clone, Copy)]
 pub struct Layout {
     pub month: u16,
     pub closed: u32,
@@ -22,14 +24,14 @@ pub struct Layout {
 }
 
 // The group with a code: its place among the groups, and its record's offset.
-#[derive(Drop)]
+#[derive(Clone, Copy)]
 pub enum FoundGroup {
     At { index: usize, offset: usize },
     Nothing,
 }
 
 // The firm with a code: its place among the firms.
-#[derive(Drop)]
+#[derive(Clone, Copy)]
 pub enum FoundFirm {
     At(usize),
     Nothing,

@@ -1,0 +1,38 @@
+-- The walk stands at the start of group i, and the search from there has the same answer as from the first.
+use mathlib.Core.Path.{refl, sym, ◌∙◌}
+use borrow.Author.Tests.{lt-ltb, le-ltb}
+use borrow.Author.Rules.{rules}
+use Rattle.wire.proofs.Choose.{seek_hit, seek-next, seek_end}
+use Rattle.lookup.specs.Lookup.{group_is, group_listed, group_found}
+use Rattle.lookup.proofs.Laws.{group_next, group-first}
+use Rattle.lookup.proofs.find_group.Goals as goal
+
+pub returns-then-group_has : goal.returns-then-group_has
+unfolding group_found group_listed group_is
+returns-then-group_has c =
+    let l = c.loop-i in
+    let t = c.loop-i-test.true in
+    let has = sym c.group_has.ensures ∙ c.if-group_has.true in
+    let here = l.invariant.3 ∙ seek_hit _ _ _ t (rw l.invariant.2 at has) in
+    simp (here, lt-ltb _ _ t, l.invariant.2)
+
+pub loop-i-preserved : goal.loop-i-preserved
+unfolding group_is
+loop-i-preserved c =
+    let l = c.loop-i in
+    let t = c.loop-i-test.true in
+    let hasnt = sym c.group_has.ensures ∙ c.if-group_has.false in (
+      search rules,
+      search rules,
+      simp (c.u16_at.ensures, group_next, l.invariant.2),
+      l.invariant.3 ∙ seek-next _ _ _ t (rw l.invariant.2 at hasnt),
+    )
+
+pub returns : goal.returns
+unfolding group_found group_listed
+returns c =
+    let l = c.loop-i in
+    simp (l.invariant.3 ∙ seek_end _ _ _ c.loop-i-test.false, le-ltb _ _ c.loop-i-test.false)
+
+pub loop-i-init : goal.loop-i-init
+loop-i-init c = (search rules, search rules, sym (group-first _ _), refl)
