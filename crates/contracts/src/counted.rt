@@ -10,7 +10,7 @@ use records::{Group, group_fields};
 use wire::bit;
 
 // How a group takes a contract.
-#[derive(Drop)]
+#[derive(Clone, Copy)]
 pub enum Status {
     Unlisted,
     Listed,
@@ -18,7 +18,7 @@ pub enum Status {
 }
 
 // Of the contracts before a place: how many are in the front mask, and how many have k of those before them and are in the extra mask.
-#[derive(Drop)]
+#[derive(Clone, Copy)]
 struct Passed {
     front: usize,
     extra: usize,

@@ -1,4 +1,6 @@
 // A group's listed contracts: that they rise, and which of them are counted.
+#![tactic(auto)]
+
 mod counted;
 mod listing;
 

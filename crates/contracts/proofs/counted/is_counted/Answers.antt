@@ -4,14 +4,12 @@ use mathlib.Core.Bool.{true, false, or-false, and-true, and-false}
 use mathlib.Core.List.{List}
 use mathlib.Core.Path.{◌≡◌, sym, ◌∙◌}
 use borrow.Author.Tests.{le-leb, lt-leb, eq-eqb, ne_eqb}
-use borrow.Author.Rules.{rules}
 use Rattle.wire.specs.Sums.{count}
 use Rattle.records.specs.Fields.{group_fields}
 use Rattle.contracts.specs.Listing.{contract}
 use Rattle.contracts.specs.Counted.{in_mask, in_front, is_after, is_late, is_counted}
 use Rattle.records.specs.declared.fields.Group.{Group}
-use Rattle.contracts.proofs.counted.is_counted.Statement.{statement}
-use Rattle.contracts.proofs.counted.is_counted.Tie as tie
+use Rattle.contracts.proofs.counted.is_counted.Goals as goal
 
 module _ (B : List ℕ) (i : ℕ) {g : Group} {m front : ℕ} (e : g ≡ group_fields B) (f : m ≡ contract B i) (q : front ≡ count i (in_front B)) where
   not_after : front < g.k → is_after B i ≡ false
@@ -37,26 +35,18 @@ module _ (B : List ℕ) (i : ℕ) {g : Group} {m front : ℕ} (e : g ≡ group_f
   unfolding is_counted
   too-late h z = rw (after h, ne_eqb _ _ z) (sym (and-false (is_late B i)))
 
-returns : tie.Need-returns
+pub returns-then-passed-g : goal.returns-then-passed-g
+returns-then-passed-g c =
+    let p = c.passed_before-passed.ensures in
+    c.in_mask.ensures ∙ by_front _ _ c.requires.g_value c.contract_at-m.ensures p.front c.if-passed-g.true
+
+pub returns-then-passed-ne0 : goal.returns-then-passed-ne0
+returns-then-passed-ne0 c =
+    let p = c.passed_before-passed.ensures in
+    too-late _ _ c.requires.g_value c.contract_at-m.ensures p.front c.if-passed-g.false (λ z. c.if-passed-ne0.true (p.extra ∙ z))
+
+pub returns : goal.returns
 returns c =
-    let m = c.before.before.before.before in
-    let p = m.before.passed-before.ensures in
-    c.in-mask.ensures ∙ by_front _ _ m.before.before.before.requires.1 m.contract-at.ensures p.front c.before.if1.true
-
-returns-2 : tie.Need-returns-2
-returns-2 c =
-    let m = c.before.before.before.before.before in
-    let p = m.before.passed-before.ensures in
-    too-late _ _ m.before.before.before.requires.1 m.contract-at.ensures p.front c.before.before.if1.false (λ z. c.if2.true (p.extra ∙ z))
-
-returns-3 : tie.Need-returns-3
-returns-3 c =
-    let m = c.before.before.before.before.before.before in
-    let p = m.before.passed-before.ensures in
-    c.in-mask2.ensures
-    ∙ by-extra _ _ m.before.before.before.requires.1 m.contract-at.ensures p.front c.before.before.before.if1.false (sym p.extra ∙ c.before.if2.false)
-
-pub is_counted_spec : {M : Type 1} → statement M
-is_counted_spec =
-    tie.close (tie.spec (λ c κs. search rules) (λ c κs. search rules) (λ c. search rules) (λ c κs. search rules) returns returns-2
-    (λ c κs. search rules) returns-3)
+    let p = c.passed_before-passed.ensures in
+    c.in_mask-2.ensures
+    ∙ by-extra _ _ c.requires.g_value c.contract_at-m.ensures p.front c.if-passed-g.false (sym p.extra ∙ c.if-passed-ne0.false)
