@@ -1,18 +1,18 @@
 -- What a verdict says of the tests that gave it, by a table of their outcomes; the bounds of factors.
 -- No code gets worse where totals are eased: the factor does not fall, so the bound rises while the score falls.
-use Prim.Native.Nat.{ℕ, ◌*◌, ◌≤◌, suc-le-suc}
+use Prim.Native.Nat.{ℕ, ◌*◌, ◌<◌, ◌≤◌, suc-le-suc}
 use mathlib.Core.Bool.{Bool, true, false, cond, not, ◌&&◌, ◌||◌}
 use mathlib.Core.List.{[], ◌∷◌}
 use mathlib.Core.Path.{◌≡◌, refl, sym}
 use native.Mathlib.Nat.{le_refl, le_trans, mul-le-mul, mul-le-mul_left}
 use native.Mathlib.Omega.{arith}
-use lib.Dec.{leb, ltb, lit≤}
-use borrow.Author.Tests.{not-false, leb-true, le-ltb}
+use lib.Dec.{leb, ltb}
+use borrow.Author.Tests.{not-false, leb-true, lt-ltb, le-ltb}
 use Rattle.wire.specs.Choose.{choose}
 use Rattle.wire.proofs.Bools.{and_left, and_right, cond_le, ltb-leb, range}
 use Rattle.wire.proofs.Choose.{chosen, here, next, done, each}
 use Rattle.wire.proofs.Implies.{◌⇒◌, not-⇒, and-⇒, leb-⇒, cond_rises}
-use Rattle.rules.specs.Verdict.{version96, not_judged, Falling, by_tier, tier_factor, exceeds, verdict, is_violation, is_severe, limit, fits, is_benchmark, is_refused, decided, days_verdict, number_of}
+use Rattle.rules.specs.Verdict.{version96, not_judged, Falling, by_tier, tier_factor, exceeds, verdict, is_violation, is_severe, limit, fits, is_benchmark, is_refused, decided, too_many_days, days_verdict, number_of}
 use Rattle.rules.specs.Bounds.{Lawful, Bounded}
 use Rattle.rules.specs.Month.{is_exempt}
 use Rattle.rules.specs.Laws.{read_back}
@@ -109,7 +109,7 @@ module _ (B d : ℕ) (t : Totals) where
       by_number (leb r (20000 * d)) (exceeds P B d t) (exceeds P (6 * B) d t) (leb r (40000 * d)) (leb r (60000 * d))
 
   pub never_24 : number_of (verdict version96 B d t) ≡ 24 → ⊥
-  never_24 = numbered.never-24
+  never_24 = numbered.never_24
 
   pub pair : read_back (number_of (verdict version96 B d t)) ≡ verdict version96 B d t
   pair = numbered.pair
@@ -124,6 +124,11 @@ pub fitting : (d : ℕ) (t : Totals) → fits d t ≡ true → Fitting d t
 fitting d t e =
     let h = each (leb t.raw (limit * d) ∷ leb t.score (limit * d) ∷ leb t.lots (limit * d) ∷ []) e in
     record { raw = leb-true _ _ h.0; score = leb-true _ _ h.1.0; lots = leb-true _ _ h.1.1.0 }
+
+-- more days than a month has come first
+pub too_many : (d : ℕ) (t : Totals) (B : ℕ) → 31 < d → too_many_days ≡ days_verdict d t B
+unfolding days_verdict
+too_many d t B h = sym (chosen (here (lt-ltb 31 d h)))
 
 -- where nothing is refused there is a verdict
 pub days-decided : (d : ℕ) (t : Totals) (B : ℕ) → d ≤ 31 → fits d t ≡ true → is_benchmark B ≡ true
