@@ -1,4 +1,4 @@
-//! Links the proved rules, which `rt staticlib rules` writes at the repository's root.
+//! Links the proved rules, which `panel/archive` writes to target/staticlib.
 
 use std::env;
 use std::path::Path;
@@ -11,7 +11,7 @@ fn main() {
     println!("cargo:rerun-if-changed={}", archive.display());
     if !archive.is_file() {
         eprintln!("panel: there is no {}", archive.display());
-        eprintln!("panel: run 'rt staticlib rules' at the repository's root first");
+        eprintln!("panel: run 'panel/archive' at the repository's root first");
         exit(1);
     }
     println!("cargo:rustc-link-search=native={}", folder.display());
