@@ -1,4 +1,6 @@
 // The check of a whole schedule.
+#![tactic(auto)]
+
 mod scan;
 
 pub use scan::{Checked, check};

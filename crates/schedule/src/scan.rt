@@ -14,7 +14,7 @@ use records::{
 use wire::u16_at;
 
 // The kinds of a schedule's records.
-#[derive(Drop)]
+#[derive(Clone, Copy)]
 enum Kind {
     Head,
     Group,
@@ -23,14 +23,14 @@ enum Kind {
 }
 
 // Where the check stands: the next record's offset, and what the records before it hold.
-#[derive(Drop)]
+#[derive(Clone, Copy)]
 struct Cursor {
     at: usize,
     held: Layout,
 }
 
 // A refusal's number and offset, or what the schedule holds.
-#[derive(Drop)]
+#[derive(Clone, Copy)]
 pub enum Checked {
     Refused { number: u8, offset: usize },
     Good(Layout),
