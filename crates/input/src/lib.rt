@@ -1,4 +1,6 @@
 // The input of mep-statement: a schedule, then activity. Where the one ends and the other begins.
+#![tactic(auto)]
+
 ghost use Rattle.std.specs.Prelude.{◌≡◌, length};
 ghost use Rattle.input.specs.Input.{begins_activity, schedule_of};
 
