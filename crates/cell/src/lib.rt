@@ -1,4 +1,6 @@
 // A cell, and what a counted record makes of it: activity adds to its totals, a correction replaces it.
+#![tactic(auto)]
+
 ghost use Rattle.std.specs.Prelude.{◌≡◌, ◌+◌, leb};
 ghost use Rattle.rules.specs.Verdict.{limit, fits};
 ghost use Rattle.cell.specs.Cell.{plus};
@@ -9,14 +11,14 @@ use activity::{Correction, correction_fields, is_activity, totals_of};
 use rules::{LIMIT, Totals};
 
 // What is kept of one firm, one group and one day: its totals, and the edition of the correction that set them, 0 where none did.
-#[derive(Drop)]
+#[derive(Clone, Copy)]
 pub struct Cell {
     pub totals: Totals,
     pub edition: u64,
 }
 
 // A refusal's number, or the cell after the record.
-#[derive(Drop)]
+#[derive(Clone, Copy)]
 pub enum Entry {
     Refused(u8),
     Entered(Cell),
