@@ -1,4 +1,6 @@
 // How the schedule takes a posted record, activity or a correction: refused, outside, or counted in the cell of a firm and a group.
+#![tactic(auto)]
+
 ghost use Rattle.std.specs.Prelude.{◌≡◌, ◌≤◌, length, drop};
 ghost use Rattle.wire.specs.Choose.{choose};
 ghost use Rattle.records.specs.Bodies.{body_at};
