@@ -1,4 +1,6 @@
 // The book of posts: opening it, and posting a record to it.
+#![tactic(auto)]
+
 mod cells;
 mod opening;
 mod posting;

@@ -6,7 +6,7 @@ use schedule::Checked;
 use wire::fill;
 
 // A refusal's number and offset, or that the book is open.
-#[derive(Drop)]
+#[derive(Clone, Copy)]
 pub enum Opened {
     Refused { number: u8, offset: usize },
     Done,

@@ -13,7 +13,7 @@ use schedule::Checked;
 use wire::byte_at;
 
 // A refusal's number and offset, or what the post did: nothing, or the record was taken into its cell.
-#[derive(Drop)]
+#[derive(Clone, Copy)]
 pub enum Posted {
     Refused { number: u8, offset: usize },
     Outside,

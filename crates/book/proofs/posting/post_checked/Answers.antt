@@ -1,0 +1,56 @@
+-- Each way that the schedule takes a record is one of the answers; a record that is counted has its cell inside the book.
+use Prim.Native.Nat.{ℕ, ◌≤◌}
+use mathlib.Core.List.{List}
+use mathlib.Core.Path.{◌≡◌, refl, sym, ap, ◌∙◌}
+use native.Mathlib.Omega.{arith}
+use Rattle.wire.proofs.Choose.{passed}
+use Rattle.filing.specs.Causes.{record_causes}
+use Rattle.filing.specs.Filing.{filed_meaning, filing_of}
+use Rattle.filing.specs.declared.Filed.{Filed}
+use Rattle.filing.specs.declared.Filed.TheVariants as filed
+use Rattle.lookup.specs.declared.Layout.{Layout}
+use Rattle.filing.proofs.Told.{Located, told}
+use Rattle.book.specs.Book.{index}
+use Rattle.book.proofs.Checked.{sized}
+use Rattle.book.proofs.Taken.{Admitted, admitted, admitted_inside}
+use Rattle.book.proofs.Answers.{stopped, passed_over, goes_in}
+use Rattle.book.proofs.posting.post_checked.Goals as goal
+
+-- a counted record has a firm and a group, and passed 11 to 17 and 31
+module _ (S : List ℕ) (l : Layout) (R : List ℕ) {t : Filed} {f g : ℕ} (known : filed_meaning t ≡ filing_of S l R) (at : t ≡ filed.At f g) where
+  placed : Located S l R (record_causes S l R) f g
+  placed = told _ _ _ _ (sym (ap filed_meaning at) ∙ known)
+
+  passes : Admitted S l R
+  passes = admitted _ _ _ (passed _ refl placed.passing.none)
+
+-- equal places are of one cell
+index_same : (G : ℕ) {f f' g g' d d' : ℕ} → f ≡ f' → g ≡ g' → d ≡ d' → index G f g d ≡ index G f' g' d'
+index_same G p q r = rw (p, q, r) refl
+
+pub cell_index-at-requires : goal.cell_index-at-requires
+cell_index-at-requires c =
+    let a = c.args in
+    let f : a.l.firms ≤ 255 = omega (arith, c.well_formed) in
+    let g : a.l.groups ≤ 255 = omega (arith, c.well_formed) in
+    let here = placed _ _ _ c.file.ensures c.in-At.is in
+    let p = passes _ _ _ c.file.ensures c.in-At.is in
+    (omega (arith, here.firm, p.firm), omega (arith, here.group, p.placed.group), omega (arith, c.byte_at.ensures, p.placed.first))
+
+pub enter-requires : goal.enter-requires
+enter-requires c =
+    let here = placed _ _ _ c.file.ensures c.in-At.is in
+    let p = passes _ _ _ c.file.ensures c.in-At.is in
+    rw (c.cell_index-at.ensures ∙ index_same _ here.firm here.group c.byte_at.ensures)
+    (omega (arith, admitted_inside _ _ _ p, (sized _ _ c.requires).room))
+
+pub returns-in-Refused : goal.returns-in-Refused
+returns-in-Refused c = stopped _ _ _ c.requires (told _ _ _ _ (sym (ap filed_meaning c.in-Refused.is) ∙ c.file.ensures))
+
+pub returns-in-Outside : goal.returns-in-Outside
+returns-in-Outside c = passed_over _ _ _ c.requires (told _ _ _ _ (sym (ap filed_meaning c.in-Outside.is) ∙ c.file.ensures))
+
+pub returns-in-At : goal.returns-in-At
+returns-in-At c =
+    let here = placed _ _ _ c.file.ensures c.in-At.is in
+    goes_in _ _ _ c.requires here.passing (c.cell_index-at.ensures ∙ index_same _ here.firm here.group c.byte_at.ensures) c.enter.ensures
