@@ -23,7 +23,7 @@ use Rattle.book.specs.Book.{width, size, index, cell_at, numbers_of, with_cell, 
 use Rattle.filing.specs.Causes.{firm_place_of, group_place_of}
 use Rattle.cell.specs.Entry.{entered}
 use Rattle.book.specs.Post.{Effect, outside, counted, is_taken, index_of, taking, answer_under, book_under, post_answer, post_book}
-use Rattle.accepted.specs.Accepted.{is_at, accept, accepted_cells, own, posted}
+use Rattle.accepted.specs.Accepted.{is_at, accept, accepted_cells, posted}
 use Rattle.cell.specs.declared.Cell.{Cell}
 use Rattle.accepted.specs.Laws.{Laws}
 use Rattle.book.proofs.Checked.{by_room, book-good}
