@@ -13,7 +13,7 @@ use Rattle.wire.specs.Sums.{sum, count}
 use Rattle.wire.proofs.Bools.{and_left, and_right, cond_le, cond_where, range}
 use Rattle.wire.proofs.Choose.{every, none_at}
 use Rattle.wire.proofs.Sums.{sum_more, sum_le, sum_most, sum-cost}
-use Rattle.rules.specs.Verdict.{version96, verdict, is_violation, limit, fits, is_benchmark, days_verdict}
+use Rattle.rules.specs.Verdict.{version96, is_violation, limit, fits, is_benchmark, days_verdict}
 use Rattle.rules.specs.Month.{Terms, DailyTotals, counted, over_counted, days, sums, exempt}
 use Rattle.rules.specs.Marks.{places, day_of, group_of, verdict_at}
 use Rattle.rules.specs.declared.Totals.{Totals}

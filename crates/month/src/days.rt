@@ -42,7 +42,7 @@ pub(crate) fn has_excess(l: Layout, book: &[u64], firm: u8) -> bool
 }
 
 // The sums of raw, score and lots over the counted days, and how many these are.
-#[derive(Drop)]
+#[derive(Clone, Copy)]
 struct MonthSums {
     raw: u64,
     score: u64,

@@ -1,4 +1,6 @@
 // One firm's month out of the book: refusals 1 to 8, 21 and 22, or its verdicts, exemptions and marks.
+#![tactic(auto)]
+
 mod days;
 mod groups;
 mod marks;

@@ -27,7 +27,7 @@ fn mark_of(p: Rules, code: u8, exempt: bool, before: u16) -> u8
 }
 
 // How many were left so far in each exchange grouping.
-#[derive(Drop)]
+#[derive(Clone, Copy)]
 struct Left {
     first: u16,
     second: u16,

@@ -1,0 +1,44 @@
+-- The marks of the places passed are over the front of the codes, and each counter holds how many were left so far in its exchange grouping.
+use mathlib.Core.Path.{◌≡◌, refl, ◌∙◌}
+use native.Mathlib.Omega.{arith}
+use lib.Dec.{eqb}
+use lib.ListN.{length, get_or}
+use borrow.Author.Rules.{rules}
+use Rattle.wire.proofs.Lists.{joined-none, table_read, table_write, table_done}
+use Rattle.wire.proofs.Sums.{bit_in, sum-none, sum_more, count_most}
+use Rattle.rules.specs.Marks.{places, Judged, left as leftIn, mark}
+use Rattle.month.specs.Parts.{held}
+use Rattle.month.proofs.Waivers.{mark_by}
+use Rattle.month.proofs.marks.give_marks.Goals as goal
+
+pub with_count-left-requires : goal.with_count-left-requires
+with_count-left-requires c =
+    let j : Judged = held c.args.marks c.args.exempts.now c.args.groupings.now in
+    omega (arith, count_most c.loop-i.i (leftIn j 1), count_most c.loop-i.i (leftIn j 2), c.loop-i.invariant, c.bit.ensures.1)
+
+pub loop-i-preserved : goal.loop-i-preserved
+loop-i-preserved c =
+    let a = c.args in
+    let v = c.loop-i.invariant in
+    let i = c.loop-i.i in
+    let j : Judged = held a.marks a.exempts.now a.groupings.now in
+    let read : get_or c.loop-i.marks i 0 ≡ get_or a.marks i 0 = rw v.1 (table_read (mark a.p j) i a.marks 0) in
+    let long : length a.marks ≡ places = omega (arith, c.well_formed) in
+    let given : c.mark_of.result ≡ mark a.p j i
+    = rw (c.mark_of.ensures, read, c.count_in-before.ensures, v.2, v.3) (mark_by a.p j i (c.requires i c.loop-i-test.true)) in (
+      search rules,
+      rw v.1 (table_write (mark a.p j) i c.mark_of.result a.marks (omega (arith, long)) given),
+      rw (c.with_count-left.ensures.0, v.2, c.bit.ensures.0, read, sum_more, bit_in (eqb (j.grouping i) 1)),
+      rw (c.with_count-left.ensures.1, v.3, c.bit.ensures.0, read, sum_more, bit_in (eqb (j.grouping i) 2)),
+    )
+
+pub returns : goal.returns
+returns c =
+    let a = c.args in
+    let e : c.loop-i.i ≡ places = omega arith in
+    let long : length a.marks ≡ places = omega (arith, c.well_formed) in
+    rw e at c.loop-i.invariant.1
+    ∙ table_done (mark a.p (held a.marks a.exempts.now a.groupings.now)) places a.marks long
+
+pub loop-i-init : goal.loop-i-init
+loop-i-init c = rw (joined-none, sum-none, sum-none) (omega arith, refl, refl, refl)
