@@ -1,4 +1,6 @@
 // What the test program reads a script with, and how it prints bytes and the numbers of a book.
+#![tactic(auto)]
+
 mod digest;
 mod hex;
 mod script;

@@ -5,7 +5,7 @@ ghost use Rattle.script.specs.Script.{u64_at, past_in, piece_at};
 use wire::{least, u32_at};
 
 // A run of the script's bytes: its first place, and the place after its last.
-#[derive(Drop)]
+#[derive(Clone, Copy)]
 pub struct Piece {
     pub start: usize,
     pub end: usize,
