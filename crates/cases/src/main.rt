@@ -1,18 +1,20 @@
 // Runs a script of calls and prints the answer of each.
+#![tactic(auto)]
+
 mod answers;
 mod commands;
 mod state;
 
-ghost use Rattle.std.specs.Prelude.{◌<◌, length};
+ghost use Rattle.std.specs.Prelude.{◌<◌, length, IfOk};
 
-use answers::say;
 use commands::{
     run_book, run_digest, run_open, run_post, run_schedule, run_statement, run_verdict, run_write,
     stop,
 };
-use libc::STDIN_FILENO;
+use reading::read_full;
 use script::Piece;
 use state::State;
+use std::io;
 use wire::byte_at;
 
 // The longest script, in bytes, and the largest book, in numbers.
@@ -21,27 +23,32 @@ const SCRIPT: usize = 262_144;
 const BOOK: usize = 16_384;
 
 // Runs the command that stands next.
-fn run_command(script: &[u8], mut state: State, book: &mut [u64]) -> State
+fn run_command(
+    rt: &impl Print,
+    script: &[u8],
+    mut state: State,
+    book: &mut [u64],
+) -> io::Result<State>
     requires { state.at < length script.now }
-    ensures { state.at < result.at }
+    ensures { IfOk result (λ after. state.at < after.at) }
 {
     let command = byte_at(script, state.at);
     state.at += 1;
     match command {
-        b'S' => run_schedule(script, state),
-        b'B' => run_book(script, state, book),
-        b'W' => run_write(script, state, book),
-        b'O' => run_open(script, state, book),
-        b'P' => run_post(script, state, book),
-        b'T' => run_statement(script, state, book),
-        b'V' => run_verdict(script, state),
-        b'D' => run_digest(state, book),
-        _ => stop(state, b"bad command\n"),
+        b'S' => Ok(run_schedule(script, state)),
+        b'B' => run_book(rt, script, state, book),
+        b'W' => run_write(rt, script, state, book),
+        b'O' => run_open(rt, script, state, book),
+        b'P' => run_post(rt, script, state, book),
+        b'T' => run_statement(rt, script, state, book),
+        b'V' => run_verdict(rt, script, state),
+        b'D' => run_digest(rt, state, book),
+        _ => stop(rt, state, "bad command"),
     }
 }
 
 // Runs the commands one after the other, to the script's end or to one that cannot be run.
-fn run_script(script: &[u8], book: &mut [u64]) {
+fn run_script(rt: &impl Print, script: &[u8], book: &mut [u64]) -> io::Result<()> {
     let mut state = State {
         at: 0,
         schedule: Piece { start: 0, end: 0 },
@@ -49,21 +56,21 @@ fn run_script(script: &[u8], book: &mut [u64]) {
         ended: false,
     };
     while state.at < script.len() {
-        state = run_command(script, state, book);
+        state = run_command(rt, script, state, book)?;
         if state.ended {
-            return;
+            return Ok(());
         }
     }
+    Ok(())
 }
 
-fn main() {
+fn main(rt: HostRuntime) -> io::Result<()> {
     // A byte more than the longest script, so that a longer one is noticed.
     let mut script = [0u8; SCRIPT + 1];
-    let n = io::read_full(STDIN_FILENO, &mut script);
+    let n = read_full(&mut rt.reader(), &mut script)?;
     if SCRIPT < n {
-        say(b"script too long\n");
-        return;
+        return println!(rt; "script too long");
     }
     let mut book = [0u64; BOOK];
-    run_script(&script[..n], &mut book);
+    run_script(&rt, &script[..n], &mut book)
 }

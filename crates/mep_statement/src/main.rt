@@ -1,12 +1,15 @@
 // mep-statement: reads a schedule and a month's activity from standard input, and prints every firm's statement. What it prints is what
 // `report` writes; only reading and printing stand here.
+#![tactic(auto)]
+
 ghost use Rattle.std.specs.Prelude.{◌≡◌, ◌+◌, length};
 ghost use Rattle.input.specs.Input.{input_limit};
 ghost use Rattle.report.specs.Answer.{output_size};
 
 use input::INPUT;
-use libc::{STDIN_FILENO, STDOUT_FILENO};
+use reading::read_full;
 use report::{OUTPUT, Reported, report};
+use std::io;
 
 // One byte more than the program takes, so that a longer input is seen to be too long.
 fn input_buffer() -> [u8; INPUT + 1]
@@ -22,17 +25,13 @@ fn output_buffer() -> [u8; OUTPUT]
     [0; OUTPUT]
 }
 
-fn main() {
+fn main(rt: HostRuntime) -> io::Result<()> {
     let mut input = input_buffer();
-    let n = io::read_full(STDIN_FILENO, &mut input);
+    let n = read_full(&mut rt.reader(), &mut input)?;
     let mut out = output_buffer();
     match report(&input[..n], &mut out) {
-        Reported::Whole(bytes) => {
-            io::write_all(STDOUT_FILENO, &out[..bytes]);
-        }
+        Reported::Whole(bytes) => rt.write_all(&out[..bytes]),
         // Never, for no report is longer than this output (report_laws).
-        Reported::Cut(bytes) => {
-            io::write_all(STDOUT_FILENO, &out[..bytes]);
-        }
+        Reported::Cut(bytes) => rt.write_all(&out[..bytes]),
     }
 }

@@ -1,0 +1,8 @@
+-- By the lemma, for so many zeros are too long to be counted one by one.
+use Rattle.std.proofs.Common.{ℕ, sym}
+use Rattle.std.proofs.Math.ListN.{length-replicate}
+use Rattle.report.specs.Answer.{output_size}
+use Rattle.mep_statement.proofs.output_buffer.Goals as goal
+
+pub returns : goal.returns
+returns c = sym (length-replicate {A = ℕ} output_size 0)
