@@ -5,7 +5,7 @@ use mathlib.Core.Bool.{Bool, true, false, cond, not, ◌&&◌, false≢true}
 use mathlib.Core.List.{List, [], ◌++◌, append_assoc}
 use mathlib.Core.Path.{◌≡◌, refl, sym, ap, subst, ◌∙◌}
 use native.Mathlib.Omega.{arith}
-use lib.Dec.{eqb, ltb, lit≤}
+use lib.Dec.{ltb, lit≤}
 use lib.ListN.{length, drop}
 use borrow.Author.Tests.{eq-eqb}
 use Rattle.wire.specs.Bytes.{u16_at, u32_at}
@@ -26,7 +26,7 @@ use Rattle.statement.specs.Layout.{line_size}
 use Rattle.statement.specs.Lines.{line_bytes, line_at, lines, tally, totals_bytes, shown}
 use Rattle.statement.specs.Statement.{statement_bytes}
 use Rattle.statement.proofs.Shown.{line_some, lines_length, mark_some}
-use Rattle.guarantee.specs.Demand3.{layout, is_listed, totals_after, month_after, Run}
+use Rattle.guarantee.specs.Demand3.{layout, is_listed, month_after}
 use Rattle.guarantee.specs.EachLine.{LineIs, line_shown, cell_verdict, EachLine}
 use Rattle.guarantee.proofs.Demand3.{run}
 
