@@ -1,5 +1,7 @@
 // Text in an output. Each writer takes the place where it starts and answers the place after what it wrote, where the next goes on. No
 // writer asks for room: what has none is left out, and the place says so.
+#![tactic(auto)]
+
 mod lines;
 
 ghost use Rattle.std.specs.Prelude.{◌++◌, ◌≡◌, ◌-◌, min};
@@ -9,7 +11,7 @@ pub use lines::{Line, put_line, put_totals, put_violation};
 use wire::least;
 
 // The next free byte of an output, and whether all that was written so far had room.
-#[derive(Drop)]
+#[derive(Clone, Copy)]
 pub struct Place {
     pub at: usize,
     pub whole: bool,

@@ -12,7 +12,7 @@ use statement::{
 use wire::{byte_at, u16_at, u32_at};
 
 // A line other than a violation or totals: an input that is too long, the month's heading, a refused record, a refused schedule or book.
-#[derive(Drop)]
+#[derive(Clone, Copy)]
 pub enum Line {
     TooLong,
     Heading(u16),
