@@ -1,7 +1,7 @@
 -- What mep-statement prints for an input (document 01, "Eleven marked days, a month and one whole run", and document 02, 2.3). I is the input, S the
 -- schedule, l what it holds, rs the posted records, B the book, C a firm's code.
 -- Assumes nothing.
-use Rattle.std.specs.Prelude.{ℕ, ◌+◌, ◌-◌, ◌*◌, ◌/◌, cond, List, [], ◌∷◌, ◌++◌, ltb, length, drop, replicate}
+use Rattle.std.specs.Prelude.{ℕ, ◌-◌, ◌*◌, ◌/◌, cond, List, [], ◌∷◌, ◌++◌, ltb, length, drop, replicate}
 use Rattle.wire.specs.Lists.{joined}
 use Rattle.lookup.specs.Lookup.{firm_start}
 use Rattle.records.specs.Bodies.{rest_at}

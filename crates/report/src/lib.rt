@@ -1,4 +1,6 @@
 // A month's report: every firm's statement as text, from a schedule and activity in one input.
+#![tactic(auto)]
+
 mod firms;
 mod posts;
 
@@ -25,7 +27,7 @@ const FIRM_GROUPS: usize = 66;
 const BOOK: usize = FIRM_GROUPS * PER_FIRM_GROUP;
 
 // How many bytes of the output were written: the whole text, or as much of it as there was room for.
-#[derive(Drop)]
+#[derive(Clone, Copy)]
 pub enum Reported {
     Whole(usize),
     Cut(usize),
