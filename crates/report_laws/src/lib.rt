@@ -1,1 +1,2 @@
 // What holds of every report, over the definitions that the contract of report cites: specs/ and proofs/ are all that this library has.
+#![tactic(auto)]
