@@ -5,8 +5,9 @@ mod answers;
 mod commands;
 mod state;
 
-ghost use Rattle.std.specs.Prelude.{◌<◌, length, IfOk};
+ghost use Rattle.std.specs.Prelude.{◌<◌, length};
 
+use answers::say;
 use commands::{
     run_book, run_digest, run_open, run_post, run_schedule, run_statement, run_verdict, run_write,
     stop,
@@ -23,19 +24,14 @@ const SCRIPT: usize = 262_144;
 const BOOK: usize = 16_384;
 
 // Runs the command that stands next.
-fn run_command(
-    rt: &impl Print,
-    script: &[u8],
-    mut state: State,
-    book: &mut [u64],
-) -> io::Result<State>
+fn run_command(rt: &impl Print, script: &[u8], mut state: State, book: &mut [u64]) -> State
     requires { state.at < length script.now }
-    ensures { IfOk result (λ after. state.at < after.at) }
+    ensures { state.at < result.at }
 {
     let command = byte_at(script, state.at);
     state.at += 1;
     match command {
-        b'S' => Ok(run_schedule(script, state)),
+        b'S' => run_schedule(script, state),
         b'B' => run_book(rt, script, state, book),
         b'W' => run_write(rt, script, state, book),
         b'O' => run_open(rt, script, state, book),
@@ -43,12 +39,12 @@ fn run_command(
         b'T' => run_statement(rt, script, state, book),
         b'V' => run_verdict(rt, script, state),
         b'D' => run_digest(rt, state, book),
-        _ => stop(rt, state, "bad command"),
+        _ => stop(rt, state, b"bad command\n"),
     }
 }
 
 // Runs the commands one after the other, to the script's end or to one that cannot be run.
-fn run_script(rt: &impl Print, script: &[u8], book: &mut [u64]) -> io::Result<()> {
+fn run_script(rt: &impl Print, script: &[u8], book: &mut [u64]) {
     let mut state = State {
         at: 0,
         schedule: Piece { start: 0, end: 0 },
@@ -56,12 +52,11 @@ fn run_script(rt: &impl Print, script: &[u8], book: &mut [u64]) -> io::Result<()
         ended: false,
     };
     while state.at < script.len() {
-        state = run_command(rt, script, state, book)?;
+        state = run_command(rt, script, state, book);
         if state.ended {
-            return Ok(());
+            return;
         }
     }
-    Ok(())
 }
 
 fn main(rt: HostRuntime) -> io::Result<()> {
@@ -69,8 +64,10 @@ fn main(rt: HostRuntime) -> io::Result<()> {
     let mut script = [0u8; SCRIPT + 1];
     let n = read_full(&mut rt.reader(), &mut script)?;
     if SCRIPT < n {
-        return println!(rt; "script too long");
+        say(&rt, b"script too long\n");
+        return Ok(());
     }
     let mut book = [0u64; BOOK];
-    run_script(&rt, &script[..n], &mut book)
+    run_script(&rt, &script[..n], &mut book);
+    Ok(())
 }

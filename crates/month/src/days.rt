@@ -184,7 +184,7 @@ fn place_verdict(
 }
 
 // The verdicts on the places of a month, held while marks are given.
-#[derive(Drop)]
+#[derive(Clone, Copy)]
 pub(crate) struct Verdicts {
     pub codes: [u8; PLACES],
     pub factors: [u8; PLACES],

@@ -21,7 +21,7 @@ use schedule::Checked;
 
 // A refusal, or what the schedule holds; where the groups stand, and their exchange groupings; of each place (day by day, in each day group
 // by group) its code, the factor of its tier and its mark; of each group whether it is exempt. After a refusal the arrays hold zeros.
-#[derive(Drop)]
+#[derive(Clone, Copy)]
 pub struct Month {
     pub answer: Checked,
     pub starts: [usize; GROUPS],
