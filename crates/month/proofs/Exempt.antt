@@ -44,6 +44,11 @@ module _ (S : List ℕ) {l : Layout} (c : FirmCells) (ok : Sound S l c) (g day :
       let z = none_at places (is_excess l c) ok.within i (omega arith) in
       and_left (fits 1 (c g day).totals) _ (not-false (is_within (c g day)) (simp (p, q, le-leb _ _ r.most) at z))
 
+-- so on a counted day the totals are within the limit
+pub counted_fits : (S : List ℕ) {l : Layout} (B : List ℕ) (f : ℕ) → Sound S l (cells l.groups B f) → (g : ℕ) → g < 32 → (day : ℕ)
+    → counted (terms S l) (totals_in l.groups B f) g day ≡ true → fits 1 (totals_in l.groups B f g day) ≡ true
+counted_fits S {l} B f ok g h day e = cell_fits S (cells l.groups B f) ok g day h (and_left (in_effect l.month l.closed day) _ e)
+
 -- so there is a verdict on a cell of a listed group, on a day in effect, and it is the place's
 pub verdict_place : (S : List ℕ) {l : Layout} (c : FirmCells) → Sound S l c → (i : ℕ)
     → (ltb (group_of i) l.groups && in_effect l.month l.closed (day_of i)) ≡ true

@@ -125,7 +125,7 @@ fitting d t e =
     let h = each (leb t.raw (limit * d) ∷ leb t.score (limit * d) ∷ leb t.lots (limit * d) ∷ []) e in
     record { raw = leb-true _ _ h.0; score = leb-true _ _ h.1.0; lots = leb-true _ _ h.1.1.0 }
 
--- more days than a month has come first
+-- that there are more days than a month has is asked first
 pub too_many : (d : ℕ) (t : Totals) (B : ℕ) → 31 < d → too_many_days ≡ days_verdict d t B
 unfolding days_verdict
 too_many d t B h = sym (chosen (here (lt-ltb 31 d h)))

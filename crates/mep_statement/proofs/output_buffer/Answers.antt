@@ -1,4 +1,4 @@
--- By the lemma, for so many zeros are too long to be counted one by one.
+-- An array of so many zeros is a list of that many: by the lemma, since so many cannot be counted one by one.
 use Rattle.std.proofs.Common.{ℕ, sym}
 use Rattle.std.proofs.Math.ListN.{length-replicate}
 use Rattle.report.specs.Answer.{output_size}

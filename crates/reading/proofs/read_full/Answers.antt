@@ -1,4 +1,5 @@
--- A read puts its bytes right after those that came before, and the reader loses both.
+-- A read puts its bytes right behind those read before and takes them off the reader, so the array's front is what the reader has lost.
+-- A loop that ends before the array is full ended at a read of no bytes, which is the reader's end.
 use Rattle.std.proofs.Common.{None, Some, ◌≡◌, ℕ, ◌+◌, ◌≤◌, List, ◌++◌, length, arith, take, sym, append_assoc, length-take-le}
 use Rattle.std.proofs.Math.Seq.{take-append-add, take-append-le}
 use Rattle.std.specs.Io.KnownBytes.{Consumes}

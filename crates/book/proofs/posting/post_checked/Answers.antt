@@ -3,6 +3,7 @@ use Prim.Native.Nat.{ℕ, ◌≤◌}
 use mathlib.Core.List.{List}
 use mathlib.Core.Path.{◌≡◌, refl, sym, ap, ◌∙◌}
 use native.Mathlib.Omega.{arith}
+use borrow.Author.Rules.{rules}
 use Rattle.wire.proofs.Choose.{passed}
 use Rattle.filing.specs.Causes.{record_causes}
 use Rattle.filing.specs.Filing.{filed_meaning, filing_of}
@@ -31,8 +32,8 @@ index_same G p q r = rw (p, q, r) refl
 pub cell_index-at-requires : goal.cell_index-at-requires
 cell_index-at-requires c =
     let a = c.args in
-    let f : a.l.firms ≤ 255 = omega (arith, c.well_formed) in
-    let g : a.l.groups ≤ 255 = omega (arith, c.well_formed) in
+    let f : a.l.firms ≤ 255 = search rules in
+    let g : a.l.groups ≤ 255 = search rules in
     let here = placed _ _ _ c.file.ensures c.in-At.is in
     let p = passes _ _ _ c.file.ensures c.in-At.is in
     (omega (arith, here.firm, p.firm), omega (arith, here.group, p.placed.group), omega (arith, c.byte_at.ensures, p.placed.first))

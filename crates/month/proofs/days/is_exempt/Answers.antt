@@ -1,18 +1,15 @@
 -- There is a verdict on the sums of the counted days, and the month is exempt where its code is no violation; past the last group
 -- nothing is counted.
-use Prim.Native.Nat.{ℕ}
-use mathlib.Core.Bool.{true, not}
-use mathlib.Core.Path.{◌≡◌, sym, ap, ap₂, ◌∙◌}
-use Rattle.wire.proofs.Bools.{and_left}
-use Rattle.calendar.specs.Calendar.{in_effect}
-use Rattle.rules.specs.Month.{DailyTotals, counted}
-use Rattle.rules.specs.Verdict.{fits, is_violation, days_verdict}
+use mathlib.Core.Bool.{not}
+use mathlib.Core.Path.{sym, ap, ap₂, ◌∙◌}
+use Rattle.rules.specs.Month.{DailyTotals}
+use Rattle.rules.specs.Verdict.{is_violation, days_verdict}
 use Rattle.schedule.proofs.Found.{group-listed}
-use Rattle.book.specs.Book.{cells, totals_in}
+use Rattle.book.specs.Book.{totals_in}
 use Rattle.month.specs.Month.{terms}
 use Rattle.month.specs.Parts.{sums_to, verdict_in}
 use Rattle.month.specs.declared.days.MonthSums.{MonthSums}
-use Rattle.month.proofs.Exempt.{cell_fits, exempt_verdict, exempt_past}
+use Rattle.month.proofs.Exempt.{counted_fits, exempt_verdict, exempt_past}
 use Rattle.month.proofs.days.is_exempt.Goals as goal
 
 pub returns-then-l-g : goal.returns-then-l-g
@@ -26,8 +23,7 @@ returns c =
     let a = c.args in
     let s = terms a.schedule.now a.l in
     let traffic : DailyTotals = totals_in a.l.groups a.book.now a.firm in
-    let fit : (day : ℕ) → counted s traffic a.g day ≡ true → fits 1 (traffic a.g day) ≡ true
-    = λ day e. cell_fits a.schedule.now (cells a.l.groups a.book.now a.firm) c.requires.sound a.g day c.requires.g_lt_most_groups (and_left (in_effect a.l.month a.l.closed day) _ e) in
+    let fit = counted_fits a.schedule.now a.book.now a.firm c.requires.sound a.g c.requires.g_lt_most_groups in
     -- the verdict is that on the group's sums
     let decided = ap verdict_in c.days_verdict.ensures
     ∙ ap₂ (λ (s : MonthSums) B. verdict_in (days_verdict s.days (record { raw = s.raw; score = s.score; lots = s.lots }) B))

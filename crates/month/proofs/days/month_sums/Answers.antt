@@ -1,24 +1,19 @@
 -- The sums are those of the days so far. A counted day is in effect, so its totals are within the limit, and no sum overflows.
-use Prim.Native.Nat.{ℕ, ◌+◌}
-use mathlib.Core.Bool.{true}
+use Prim.Native.Nat.{◌+◌}
 use mathlib.Core.Path.{◌≡◌, refl}
 use native.Mathlib.Omega.{arith}
 use borrow.Author.Rules.{rules}
-use Rattle.wire.proofs.Bools.{and_left}
-use Rattle.rules.specs.Month.{DailyTotals, counted}
-use Rattle.rules.specs.Verdict.{fits}
-use Rattle.calendar.specs.Calendar.{in_effect}
-use Rattle.book.specs.Book.{cells, totals_in}
+use Rattle.rules.specs.Month.{DailyTotals}
+use Rattle.book.specs.Book.{totals_in}
 use Rattle.month.specs.Month.{terms}
-use Rattle.month.proofs.Exempt.{cell_fits, sums_none, sums_more, sums-within}
+use Rattle.month.proofs.Exempt.{counted_fits, sums_none, sums_more, sums-within}
 use Rattle.month.proofs.days.month_sums.Goals as goal
 
 pub with_cell-sums-requires : goal.with_cell-sums-requires
 with_cell-sums-requires c =
     let a = c.args in
     let f : DailyTotals = totals_in a.l.groups a.book.now a.firm in
-    let fit : (day : ℕ) → counted (terms a.schedule.now a.l) f a.group day ≡ true → fits 1 (f a.group day) ≡ true
-    = λ day e. cell_fits a.schedule.now (cells a.l.groups a.book.now a.firm) c.requires.sound a.group day c.requires.group_lt_most_groups (and_left (in_effect a.l.month a.l.closed day) _ e) in
+    let fit = counted_fits a.schedule.now a.book.now a.firm c.requires.sound a.group c.requires.group_lt_most_groups in
     let w = sums-within (terms a.schedule.now a.l) f a.group fit c.loop-d.d in record {
       within = rw c.loop-d.invariant.1 (record { raw = omega (arith, w.raw); score = omega (arith, w.score); lots = omega (arith, w.lots); days = omega (arith, w.days) });
       t_value = rw (c.in_effect.ensures, c.cell_in.ensures) (fit (c.loop-d.d + 1));

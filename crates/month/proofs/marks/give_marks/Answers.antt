@@ -23,7 +23,7 @@ loop-i-preserved c =
     let i = c.loop-i.i in
     let j : Judged = held a.marks a.exempts.now a.groupings.now in
     let read : get_or c.loop-i.marks i 0 ≡ get_or a.marks i 0 = rw v.1 (table_read (mark a.p j) i a.marks 0) in
-    let long : length a.marks ≡ places = omega (arith, c.well_formed) in
+    let long : length a.marks ≡ places = omega arith in
     let given : c.mark_of.result ≡ mark a.p j i
     = rw (c.mark_of.ensures, read, c.count_in-before.ensures, v.2, v.3) (mark_by a.p j i (c.requires i c.loop-i-test.true)) in (
       search rules,
@@ -36,7 +36,7 @@ pub returns : goal.returns
 returns c =
     let a = c.args in
     let e : c.loop-i.i ≡ places = omega arith in
-    let long : length a.marks ≡ places = omega (arith, c.well_formed) in
+    let long : length a.marks ≡ places = omega arith in
     rw e at c.loop-i.invariant.1
     ∙ table_done (mark a.p (held a.marks a.exempts.now a.groupings.now)) places a.marks long
 

@@ -1,3 +1,4 @@
+-- At each turn the digest so far, with the numbers that are left taken into it, is the digest of them all.
 use Rattle.std.proofs.Common.{◌<◌, length, arith, sym, add-one, drop-cons}
 use Rattle.std.proofs.Math.ListN.{drop_of_length-le}
 use Rattle.script.specs.Digest.{digest_of}

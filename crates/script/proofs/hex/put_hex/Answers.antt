@@ -1,3 +1,4 @@
+-- After i turns the first i digits of the text stand over the array as it was. The loop ends where the digits or the array do.
 use Rattle.std.proofs.Common.{◌<◌, arith, refl}
 use Rattle.std.proofs.lemmas.Bool.Decides.{nat_tests}
 use Rattle.std.proofs.Math.ListN.{length-set}
