@@ -34,14 +34,14 @@ kept_by t' t e h = go (leb t.raw 0) refl e
 
 module _ (S C : List ℕ) (first second : List (List ℕ)) (one : (layout S).groups ≡ 1) where
   -- a test that holds on 31 days holds of every cell of a day in effect
-  on_each : (isSo : (t' t : Totals) → Bool) → days_where isSo S C first second ≡ 31 → (g day : ℕ) → g < (layout S).groups
-      → in_effect (layout S).month (layout S).closed day ≡ true → isSo (totals_after S C second g day) (totals_after S C first g day) ≡ true
-  on_each isSo e g day h on =
+  on_each : (is_so : (t' t : Totals) → Bool) → days_where is_so S C first second ≡ 31 → (g day : ℕ) → g < (layout S).groups
+      → in_effect (layout S).month (layout S).closed day ≡ true → is_so (totals_after S C second g day) (totals_after S C first g day) ≡ true
+  on_each is_so e g day h on =
       let r = range 1 (days_in (layout S).month) day (and_left (within 1 (days_in (layout S).month) day) _ on) in
       let m = days_most (layout S).month in
       let z : g ≡ 0 = omega arith in
       let d : day - 1 + 1 ≡ day = omega arith in
-      rw (z, ← d) (count-all 31 (λ i. isSo (totals_after S C second 0 (i + 1)) (totals_after S C first 0 (i + 1))) e (day - 1) (omega arith))
+      rw (z, ← d) (count-all 31 (λ i. is_so (totals_after S C second 0 (i + 1)) (totals_after S C first 0 (i + 1))) e (day - 1) (omega arith))
 
   pub falls : days_where is_lighter S C first second ≡ 31 → days_where is_kept S C first second ≡ 31 → Falls S C first second
   falls l k =

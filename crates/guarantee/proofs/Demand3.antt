@@ -23,7 +23,7 @@ use Rattle.rules.specs.Verdict.{version96, is_violation}
 use Rattle.rules.specs.Month.{DailyTotals}
 use Rattle.rules.specs.Marks.{places, day_of, group_of, Judged, is_billed, mark, violations, marked, billed, amount}
 use Rattle.rules.specs.Laws.{Laws}
-use Rattle.rules.proofs.Laws.{falling96, laws as rulesLaws}
+use Rattle.rules.proofs.Laws.{falling96, laws as rules_laws}
 use Rattle.schedule.specs.Outcome.{Outcome, refused, good, follow}
 use Rattle.lookup.specs.Lookup.{group_at, firm_place, firm_listed, found, firm_found}
 use Rattle.schedule.specs.Check.{check_of}
@@ -33,7 +33,7 @@ use Rattle.cell.specs.Cell.{FirmCells, cell_totals}
 use Rattle.book.specs.Book.{size, check_book, open_answer, open_book}
 use Rattle.accepted.specs.Accepted.{accepted_cells, accepted, own, of_bytes, posted}
 use Rattle.book.proofs.Checked.{Sized, sized, book-good}
-use Rattle.accepted.proofs.Laws.{laws as bookLaws}
+use Rattle.accepted.proofs.Laws.{laws as book_laws}
 use Rattle.month.specs.Month.{terms, month_of, any_excess, firm_cells, firm_month, month_answer}
 use Rattle.month.specs.Parts.{ListedAt, Grouped}
 use Rattle.month.proofs.Answers.{is_judged}
@@ -45,7 +45,7 @@ use Rattle.statement.proofs.Shown.{lines_length, mark_some, marks-count, bytes-l
 use Rattle.guarantee.specs.Demand3.{layout, is_listed, totals_after, month_after, amount_after, Run, output_of, Falls, TotalsAre, after_lines, AddsUp, DollarsFall, SameBytes, Demand3}
 
 laws96 : Laws version96
-laws96 = rulesLaws version96 falling96
+laws96 = rules_laws version96 falling96
 
 amount_small : (j : Judged) (e : ℕ) → amount version96 j e < 4294967296
 amount_small j e = omega (arith, laws96.dollars j e, count_most places (λ i. eqb (j.grouping i) e && is_billed (mark version96 j i)))
@@ -56,12 +56,12 @@ module _ (ys : List ℕ) (e : ℕ) (j : Judged) where
   totals = totals_bytes e (tally version96 j.grouping (mark version96 j) e places) ++ ys
 
   abbrev such : (ℕ → Bool) → ℕ
-  such isSuch = having version96 j.grouping (mark version96 j) e places isSuch
+  such is_such = having version96 j.grouping (mark version96 j) e places is_such
 
   -- a count of places that stands at k
-  such_there : (k : ℕ) (isSuch : ℕ → Bool) → u16_at totals k ≡ u16_at (u16_bytes (such isSuch)) 0 → u16_at totals k ≡ such isSuch
-  such_there k isSuch q =
-      q ∙ u16_again (such isSuch) [] (omega (arith, count_most places (λ i. eqb (j.grouping i) e && isSuch (mark version96 j i))))
+  such_there : (k : ℕ) (is_such : ℕ → Bool) → u16_at totals k ≡ u16_at (u16_bytes (such is_such)) 0 → u16_at totals k ≡ such is_such
+  such_there k is_such q =
+      q ∙ u16_again (such is_such) [] (omega (arith, count_most places (λ i. eqb (j.grouping i) e && is_such (mark version96 j i))))
 
   -- the counted marks are those of the violations
   such_violations : such (λ m. not (eqb m 0)) ≡ violations j e
@@ -173,7 +173,7 @@ module _ (S C : List ℕ) (l : Layout) (e : check_of S ≡ good l) where
   unfolding any_excess
   no_excess rs bytes f =
       none_some places _ (λ i h.
-      let fine = (bookLaws S e).limited rs bytes f (group_of i) (day_of i) in
+      let fine = (book_laws S e).limited rs bytes f (group_of i) (day_of i) in
       rw (fine, and-false (leb (day_of i) (days_in l.month))))
 
   module _ (B : List ℕ) (rs : List (List ℕ)) (bytes : of_bytes rs ≡ true) (listed : firm_listed S l C ≡ true) (opened : open_answer S B ≡ good tt)
@@ -182,13 +182,13 @@ module _ (S C : List ℕ) (l : Layout) (e : check_of S ≡ good l) where
     after = posted S (open_book S B) rs
 
     held : firm_cells S after C l ≡ accepted_cells S rs (firm_place S l C)
-    held = (bookLaws S e).held B rs (firm_place S l C) opened (place_inside S C l listed)
+    held = (book_laws S e).held B rs (firm_place S l C) opened (place_inside S C l listed)
 
     -- after any list from an opened book a listed firm's month is not refused
     pub judged_after : month_answer S after C ≡ good l
     judged_after =
         let at : ListedAt S l after C (firm_place S l C)
-        = record { checked = book-good S (length after) e (rw (bookLaws S e).kept room); listed = listed; place = refl } in
+        = record { checked = book-good S (length after) e (rw (book_laws S e).kept room); listed = listed; place = refl } in
         is_judged S after C l (firm_place S l C) at (ap (any_excess l) held ∙ no_excess rs bytes (firm_place S l C))
 
     -- and its statement is that of its accepted totals
@@ -226,7 +226,7 @@ module _ (S C : List ℕ) (listed : is_listed S C ≡ true) where
 
   same : (p q : Run S C) → own C p.posts ≡ own C q.posts → SameBytes S C p q
   same p q h =
-      let laws = bookLaws S (opens S p.book p.opened).schedule in
+      let laws = book_laws S (opens S p.book p.opened).schedule in
       let alike : totals_after S C p.posts ≡ totals_after S C q.posts =
       ap cell_totals (laws.own_only C _ p.posts q.posts (place_found S C (layout S) listed) h) in
       let e : bytes_after S C p.posts ≡ bytes_after S C q.posts = ap (λ (c : DailyTotals). statement_bytes S (layout S) (month_of S (layout S) c)) alike in

@@ -135,7 +135,7 @@ is_kept t' t = leb t.raw 0 || ltb 0 t'.raw
 
 -- on how many of the 31 days a test holds of a firm's accepted totals after the second list and after the first, in the first group
 abbrev pub days_where : ((t' t : Totals) → Bool) → (S C : List ℕ) → (first second : List (List ℕ)) → ℕ
-days_where isSo S C first second = count 31 (λ i. isSo (totals_after S C second 0 (i + 1)) (totals_after S C first 0 (i + 1)))
+days_where is_so S C first second = count 31 (λ i. is_so (totals_after S C second 0 (i + 1)) (totals_after S C first 0 (i + 1)))
 
 pub record Example : Type 0 where
   pub run_answer : answers schedule 1 run ≡ good 88

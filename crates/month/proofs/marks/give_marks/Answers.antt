@@ -6,7 +6,7 @@ use lib.ListN.{length, get_or}
 use borrow.Author.Rules.{rules}
 use Rattle.wire.proofs.Lists.{joined-none, table_read, table_write, table_done}
 use Rattle.wire.proofs.Sums.{bit_in, sum-none, sum_more, count_most}
-use Rattle.rules.specs.Marks.{places, Judged, left as leftIn, mark}
+use Rattle.rules.specs.Marks.{places, Judged, left as left_in, mark}
 use Rattle.month.specs.Parts.{held}
 use Rattle.month.proofs.Waivers.{mark_by}
 use Rattle.month.proofs.marks.give_marks.Goals as goal
@@ -14,7 +14,7 @@ use Rattle.month.proofs.marks.give_marks.Goals as goal
 pub with_count-left-requires : goal.with_count-left-requires
 with_count-left-requires c =
     let j : Judged = held c.args.marks c.args.exempts.now c.args.groupings.now in
-    omega (arith, count_most c.loop-i.i (leftIn j 1), count_most c.loop-i.i (leftIn j 2), c.loop-i.invariant, c.bit.ensures.1)
+    omega (arith, count_most c.loop-i.i (left_in j 1), count_most c.loop-i.i (left_in j 2), c.loop-i.invariant, c.bit.ensures.1)
 
 pub loop-i-preserved : goal.loop-i-preserved
 loop-i-preserved c =

@@ -3,7 +3,7 @@ use Prim.Native.Nat.{◌-◌, ◌≤◌}
 use mathlib.Core.Path.{◌≡◌}
 use Rattle.wire.specs.Lists.{table, over}
 use Rattle.wire.specs.Sums.{count}
-use Rattle.rules.specs.Marks.{places, left as leftIn, mark}
+use Rattle.rules.specs.Marks.{places, left as left_in, mark}
 use Rattle.month.specs.Parts.{held}
 use Rattle.month.proofs.marks.give_marks.Given as goal
 
@@ -11,8 +11,8 @@ abbrev pub invariant-loop-i : goal.invariant-loop-i
 invariant-loop-i l =
     (l.i ≤ places)
     × (l.marks ≡ over (table l.i (mark l.p (held l.initial.marks l.exempts l.groupings))) l.initial.marks)
-    × (l.left.first ≡ count l.i (leftIn (held l.initial.marks l.exempts l.groupings) 1))
-    × (l.left.second ≡ count l.i (leftIn (held l.initial.marks l.exempts l.groupings) 2))
+    × (l.left.first ≡ count l.i (left_in (held l.initial.marks l.exempts l.groupings) 1))
+    × (l.left.second ≡ count l.i (left_in (held l.initial.marks l.exempts l.groupings) 2))
 
 abbrev pub decreases-loop-i : goal.decreases-loop-i
 decreases-loop-i l = places - l.i
