@@ -3,22 +3,24 @@
 use Prim.Native.Nat.{ℕ}
 use mathlib.Core.Bool.{Bool, true, false, cond, not, ◌&&◌, false≢true}
 use mathlib.Core.List.{List, [], ◌∷◌, foldl, map}
-use mathlib.Core.Path.{◌≡◌, refl, sym, ◌∙◌, fun_ext}
+use mathlib.Core.Path.{◌≡◌, refl, sym, ◌∙◌, subst, fun_ext}
 use native.Mathlib.Omega.{arith}
 use lib.Dec.{leb, eqb}
-use lib.ListN.{get_or}
 use borrow.Author.Tests.{eqb-true, eq-eqb, le-leb, not-false}
 use Rattle.records.specs.Bodies.{rest_at}
+use Rattle.std.specs.Prelude.{Some}
+use Rattle.std.proofs.lemmas.Slice.Eq.{bytes_eq-Decides}
 use Rattle.records.specs.Fields.{firm_fields, same_code, has_code}
+use Rattle.records.proofs.Parts.{code-letters}
 use Rattle.wire.specs.Bytes.{are_bytes, u32_at}
 use Rattle.wire.specs.Choose.{all}
 use Rattle.wire.proofs.Bools.{and_left, and_right, never}
 use Rattle.wire.proofs.Bytes.{u32_most}
 use Rattle.wire.proofs.Folds.{fold_kept, fold_kept_of, keep_fold}
-use Rattle.wire.proofs.Choose.{Passed, each, every}
+use Rattle.wire.proofs.Choose.{Passed, every}
 use Rattle.rules.specs.Verdict.{limit, fits}
-use Rattle.lookup.specs.Lookup.{firm_start, firm_is, found, firm_found}
-use Rattle.schedule.specs.Outcome.{good}
+use Rattle.lookup.specs.Lookup.{firm_start, firm_is, firm_found}
+use Rattle.refusals.specs.Outcome.{good}
 use Rattle.schedule.specs.Check.{check_of}
 use Rattle.lookup.specs.declared.Layout.{Layout}
 use Rattle.lookup.proofs.Laws.{firm-found}
@@ -77,21 +79,14 @@ entered-within c R b q p = go (is_activity R) p.1.0
 
 -- two codes that firm i has are the same
 codes_agree : (S : List ℕ) (start i : ℕ) (A C : List ℕ) → firm_is S start A i ≡ true → firm_is S start C i ≡ true → same_code A C ≡ true
-unfolding firm_is has_code
+unfolding firm_is has_code firm_fields
 codes_agree S start i A C a c =
-    let x = each _ a in
-    let y = each _ c in
-    let same : (k : ℕ) → (s : ℕ) → eqb s (get_or A k 0) ≡ true → eqb s (get_or C k 0) ≡ true → eqb (get_or A k 0) (get_or C k 0) ≡ true
-    = λ k s p q. eq-eqb _ _ (sym (eqb-true s (get_or A k 0) p) ∙ eqb-true s (get_or C k 0) q) in
-    let f = firm_fields (rest_at S (firm_start start i)) in
-    every _ (
-      y.0,
-      (same 0 f.first x.1.0 y.1.0, (same 1 f.second x.1.1.0 y.1.1.0, (same 2 f.third x.1.1.1.0 y.1.1.1.0, tt))),
-    )
+    let letters = (firm_fields (rest_at S (firm_start start i))).code in
+    subst (λ (X : List ℕ). same_code X C ≡ true) ((bytes_eq-Decides letters A).0 a) (sym (code-letters _ _ _ C) ∙ c)
 
 -- a record that is taken into a firm's cell is the firm's own
 lands_own : (S : List ℕ) (l : Layout) (C : List ℕ) (f g d : ℕ) (R : List ℕ) {c : Cell}
-    → firm_found S l C ≡ found f
+    → firm_found S l C ≡ Some f
     → Lands S l f g d R c → is_own C R ≡ true
 lands_own S l C f g d R e h =
     rw (eq-eqb _ _ h.passed.passes.form)
@@ -110,7 +105,7 @@ module _ (S : List ℕ) {l : Layout} (e : check_of S ≡ good l) where
       rw no
 
   -- a firm's cells are those that its own posts make
-  pub accepted-own : (C : List ℕ) (f : ℕ) (rs : List (List ℕ)) → firm_found S l C ≡ found f
+  pub accepted-own : (C : List ℕ) (f : ℕ) (rs : List (List ℕ)) → firm_found S l C ≡ Some f
       → accepted_cells S (own C rs) f ≡ accepted_cells S rs f
   accepted-own C f rs who =
       fun_ext (λ g. fun_ext (λ d.

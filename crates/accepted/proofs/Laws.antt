@@ -13,7 +13,7 @@ use Rattle.wire.specs.Lists.{table, over}
 use Rattle.wire.proofs.Bools.{and_left, and_right, range, in_range}
 use Rattle.wire.proofs.Folds.{fold_keeps, fold_kept}
 use Rattle.wire.proofs.Lists.{length_over, length-put, drop-put, length-table, table_over, table_behind}
-use Rattle.schedule.specs.Outcome.{Outcome, refused, good, follow, given}
+use Rattle.refusals.specs.Outcome.{Outcome, refused, good, follow, given}
 use Rattle.schedule.specs.Check.{check_of}
 use Rattle.lookup.specs.declared.Layout.{Layout}
 use Rattle.schedule.proofs.Good.{refused-good}
@@ -22,7 +22,9 @@ use Rattle.cell.specs.Cell.{empty, cell_totals}
 use Rattle.book.specs.Book.{width, size, index, cell_at, numbers_of, with_cell, cells, check_book, open_answer, open_book}
 use Rattle.filing.specs.Causes.{firm_place_of, group_place_of}
 use Rattle.cell.specs.Entry.{entered}
-use Rattle.book.specs.Post.{Effect, outside, counted, is_taken, index_of, taking, answer_under, book_under, post_answer, post_book}
+use Rattle.book.specs.Post.{is_taken, index_of, taking, answer_under, book_under, post_answer, post_book}
+use Rattle.book.specs.declared.posting.Effect.{Effect}
+use Rattle.book.specs.declared.posting.Effect.TheVariants as effect
 use Rattle.accepted.specs.Accepted.{is_at, accept, accepted_cells, posted}
 use Rattle.cell.specs.declared.Cell.{Cell}
 use Rattle.accepted.specs.Laws.{Laws}
@@ -182,15 +184,15 @@ module _ (S : List ℕ) {l : Layout} (e : check_of S ≡ good l) where
           (λ p. false≢true (sym t ∙ rw (lt-ltb _ _ p.group, in_range 1 31 d p.first p.last))))
 
 -- an answer that is not "counted" leaves the book
-not_counted : (a : Outcome Effect) (B w : List ℕ) → (a ≡ good counted → ⊥) → cond (is_taken a) w B ≡ B
+not_counted : (a : Outcome Effect) (B w : List ℕ) → (a ≡ good effect.Counted → ⊥) → cond (is_taken a) w B ≡ B
 not_counted (refused n o) B w h = refl
-not_counted (good outside) B w h = refl
-not_counted (good counted) B w h = absurd (h refl)
+not_counted (good effect.Outside) B w h = refl
+not_counted (good effect.Counted) B w h = absurd (h refl)
 
-unchanged : (S B R : List ℕ) → (post_answer S B R ≡ good counted → ⊥) → post_book S B R ≡ B
+unchanged : (S B R : List ℕ) → (post_answer S B R ≡ good effect.Counted → ⊥) → post_book S B R ≡ B
 unchanged S B R = by (check_book S (length B))
   where
-    by : (c : Outcome Layout) → (follow c (answer_under S B R) ≡ good counted → ⊥) → given c B (book_under S B R) ≡ B
+    by : (c : Outcome Layout) → (follow c (answer_under S B R) ≡ good effect.Counted → ⊥) → given c B (book_under S B R) ≡ B
     by (refused n o) h = refl
     by (good l) h = not_counted (answer_under S B R l) B _ h
 

@@ -9,7 +9,7 @@ use Rattle.wire.specs.Bytes.{are_bytes}
 use Rattle.wire.specs.Choose.{choose, all}
 use Rattle.wire.specs.Lists.{keep}
 use Rattle.rules.specs.Month.{DailyTotals}
-use Rattle.schedule.specs.Outcome.{given}
+use Rattle.refusals.specs.Outcome.{given}
 use Rattle.schedule.specs.Check.{check_of}
 use Rattle.lookup.specs.declared.Layout.{Layout}
 use Rattle.activity.specs.Activity.{firm_code, day}

@@ -13,13 +13,15 @@ use Rattle.contracts.specs.Counted.{contract_listed, contract_counted, in_front,
 use Rattle.records.specs.Fields.{head_fields, head_ok, group_fields, group_in_range, is_letter, firm_fields, firm_ok, has_code}
 use Rattle.contracts.specs.Listing.{contracts_ok, contract_bad, before, contract, listed}
 use Rattle.lookup.specs.Lookup.{group_start, group_is, firm_is, group_listed, firm_listed}
-use Rattle.schedule.specs.Outcome.{Outcome, refused, good}
+use Rattle.refusals.specs.Outcome.{Outcome, refused, good}
 use Rattle.schedule.specs.Check.{check_of, scan, ending, with_record, cause, is_repeated, fields_ok, is_full, length_ok, is_due, kind_of}
 use Rattle.activity.specs.Activity.{totals_of}
 use Rattle.activity.specs.Correction.{correction_fields}
 use Rattle.cell.specs.Cell.{none}
 use Rattle.book.specs.Book.{per_firm_group, index, with_cell, check_book, open_book}
-use Rattle.book.specs.Post.{Effect, outside, counted, taking, post_answer, post_book}
+use Rattle.book.specs.Post.{taking, post_answer, post_book}
+use Rattle.book.specs.declared.posting.Effect.{Effect}
+use Rattle.book.specs.declared.posting.Effect.TheVariants as effect
 use Rattle.accepted.specs.Accepted.{accepted_cells, accepted, posted}
 use Rattle.accepted.specs.Samples.{head, group, firm, activity, correction_with, correction}
 
@@ -85,9 +87,9 @@ answers B (R ∷ rs) = post_answer schedule B R ∷ answers (post_book schedule 
 
 pub record Example : Type 0 where
   pub answered : answers book posts
-      ≡ good counted ∷ good outside ∷ good counted ∷ refused 16 0 ∷ refused 17 0 ∷ refused 11 0
-      ∷ good counted
-      ∷ good counted ∷ refused 18 0 ∷ good counted
+      ≡ good effect.Counted ∷ good effect.Outside ∷ good effect.Counted ∷ refused 16 0 ∷ refused 17 0 ∷ refused 11 0
+      ∷ good effect.Counted
+      ∷ good effect.Counted ∷ refused 18 0 ∷ good effect.Counted
       ∷ []
   -- raw 1,000,000 + 1 + 10 + 100 and score 1 + 3 × (10 + 100 + 1,000 + 10,000 + 100,000), each twice
   pub accepts : accepted schedule posts 0 0 1 ≡ record { raw = 2000222; score = 666662; lots = 20000000 }
@@ -100,15 +102,15 @@ pub record Example : Type 0 where
       ≡ over (2000222 ∷ 666662 ∷ 20000000 ∷ 0 ∷ 0 ∷ 0 ∷ 0 ∷ 0 ∷ 1 ∷ 6 ∷ 0 ∷ 0 ∷ 3333333334 ∷ 10000000000 ∷ 0 ∷ 0 ∷ []) book
   -- 2.3: whatever stood in the cell is replaced; then only a higher edition is taken, and no activity; on a day not in effect all is outside
   pub corrected : answers book corrections
-      ≡ good counted ∷ good counted ∷ refused 32 0 ∷ refused 32 0 ∷ good counted
-      ∷ good counted ∷ refused 32 0 ∷ refused 32 0
-      ∷ good outside ∷ good outside
+      ≡ good effect.Counted ∷ good effect.Counted ∷ refused 32 0 ∷ refused 32 0 ∷ good effect.Counted
+      ∷ good effect.Counted ∷ refused 32 0 ∷ refused 32 0
+      ∷ good effect.Outside ∷ good effect.Outside
       ∷ []
   pub replaces : accepted_cells schedule corrections 0 0 5 ≡ record { totals = record { raw = 21; score = 24; lots = 27 }; edition = 3 }
   pub stays : accepted_cells schedule corrections 0 0 6 ≡ record { totals = record { raw = 35; score = 40; lots = 45 }; edition = 5 }
   pub keeps : posted schedule book corrections ≡ put fifth_day (21 ∷ 24 ∷ 27 ∷ 3 ∷ 35 ∷ 40 ∷ 45 ∷ 5 ∷ []) book
   -- 32 comes before 18; whatever stood in a cell is replaced
-  pub replaced : answers spoilt (orders 5 1 0 0 0 ∷ amend 5 1 ∷ amend 5 2 ∷ []) ≡ refused 32 0 ∷ refused 32 0 ∷ good counted ∷ []
+  pub replaced : answers spoilt (orders 5 1 0 0 0 ∷ amend 5 1 ∷ amend 5 2 ∷ []) ≡ refused 32 0 ∷ refused 32 0 ∷ good effect.Counted ∷ []
   pub refusals : answers book wrong
       ≡ refused 31 0 ∷ refused 31 0 ∷ refused 31 0 ∷ refused 15 0 ∷ refused 16 0 ∷ refused 13 0 ∷ refused 12 0 ∷ []
 

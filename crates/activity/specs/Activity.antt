@@ -25,13 +25,9 @@ firm_code R = take 3 (drop 4 R)
 abbrev pub day : (R : List ℕ) → ℕ
 day R = get_or R 7 0
 
--- Records, kind 4, and 2.3, kind 8: group at 8, its first letter
-abbrev pub group_first : (R : List ℕ) → ℕ
-group_first R = get_or R 8 0
-
--- and its second
-abbrev pub group_second : (R : List ℕ) → ℕ
-group_second R = get_or R 9 0
+-- Records, kind 4, and 2.3, kind 8: group at 8, two letters
+abbrev pub group_code : (R : List ℕ) → List ℕ
+group_code R = get_or R 8 0 ∷ get_or R 9 0 ∷ []
 
 -- Records, kind 4: contract u16 at 10
 abbrev pub contract_of : (R : List ℕ) → ℕ

@@ -20,9 +20,7 @@ pub const FIRM_CODE: usize = 4;
 
 pub const DAY: usize = 7;
 
-pub const GROUP_FIRST: usize = 8;
-
-pub const GROUP_SECOND: usize = 9;
+pub const GROUP_CODE: usize = 8;
 
 pub const CONTRACT: usize = 10;
 

@@ -11,7 +11,7 @@ use Rattle.wire.specs.Choose.{choose}
 use Rattle.wire.proofs.Bools.{range}
 use Rattle.wire.proofs.Choose.{next, done, chosen, Passed, passed, passed_first, passed_second, sought}
 use Rattle.calendar.specs.Calendar.{days_in}
-use Rattle.schedule.specs.Outcome.{refused, good}
+use Rattle.refusals.specs.Outcome.{refused, good}
 use Rattle.lookup.specs.Lookup.{group_listed, firm_is, firm_listed}
 use Rattle.lookup.specs.declared.Layout.{Layout}
 use Rattle.calendar.proofs.Laws.{days_most}
@@ -19,7 +19,8 @@ use Rattle.activity.specs.Activity.{firm_code, day}
 use Rattle.filing.specs.Causes.{form_causes, field_causes, list_causes, firm_place_of, group_place_of, record_causes, is_counted_record}
 use Rattle.book.specs.Book.{width, size}
 use Rattle.cell.specs.Entry.{cell_causes}
-use Rattle.book.specs.Post.{index_of, outside, counted, is_taken, taking}
+use Rattle.book.specs.Post.{index_of, is_taken, taking}
+use Rattle.book.specs.declared.posting.Effect.TheVariants as effect
 use Rattle.cell.specs.declared.Cell.{Cell}
 use Rattle.book.proofs.Places.{Placed, inside}
 
@@ -69,7 +70,7 @@ module _ (S : List ℕ) (l : Layout) (R : List ℕ) where
       second = choose (cell_causes c R) 0
 
       go : (x k y : Bool) → eqb first 0 ≡ x → eqb second 0 ≡ y
-          → is_taken (cond x (cond (not k) (good outside) (cond y (good counted) (refused second 0))) (refused first 0)) ≡ true → Taken c
+          → is_taken (cond x (cond (not k) (good effect.Outside) (cond y (good effect.Counted) (refused second 0))) (refused first 0)) ≡ true → Taken c
       go true true true e f t = record { passes = admitted (passed _ refl (eqb-true _ _ e)); cell = passed _ refl (eqb-true _ _ f) }
       go true true false e f t = absurd (false≢true t)
       go true false y e f t = absurd (false≢true t)

@@ -6,13 +6,11 @@ use Rattle.std.specs.Prelude.{ℕ, ◌+◌, ◌-◌, ◌*◌, cond, ◌&&◌, Li
 use Rattle.wire.specs.Choose.{within}
 use Rattle.wire.specs.Lists.{table, put, over}
 use Rattle.rules.specs.Month.{DailyTotals}
-use Rattle.schedule.specs.Outcome.{Outcome, refused, good, follow, given}
+use Rattle.refusals.specs.Outcome.{Outcome, refused, good, follow, given}
 use Rattle.schedule.specs.Check.{check_of}
 use Rattle.lookup.specs.declared.Layout.{Layout}
 use Rattle.cell.specs.Cell.{empty, FirmCells, cell_totals}
 use Rattle.cell.specs.declared.Cell.{Cell}
-use Rattle.book.specs.declared.opening.Opened.{Opened}
-use Rattle.book.specs.declared.opening.Opened.TheVariants as opened
 
 -- 2.3: a cell's numbers are four
 abbrev pub width : ℕ
@@ -59,12 +57,7 @@ totals_in G B f = cell_totals (cells G B f)
 unfoldable pub check_book : (S : List ℕ) → (numbers : ℕ) → Outcome Layout
 check_book S numbers = follow (check_of S) (λ l. cond (ltb numbers (size l)) (refused 8 0) (good l))
 
--- what open answers: a refusal, or nothing more
-abbrev pub open_meaning : Opened → Outcome (Unit {0})
-open_meaning (opened.Refused number offset) = refused number offset
-open_meaning opened.Done = good tt
-
--- Open
+-- Open answers a refusal, or nothing more
 abbrev pub open_answer : (S B : List ℕ) → Outcome (Unit {0})
 open_answer S B = follow (check_book S (length B)) (λ l. good tt)
 
@@ -72,7 +65,7 @@ open_answer S B = follow (check_book S (length B)) (λ l. good tt)
 abbrev pub open_book : (S B : List ℕ) → List ℕ
 open_book S B = given (check_book S (length B)) B (λ l. over (table (size l) (λ i. 0)) B)
 
--- what open promises, of the book before and after
-pub record OpenIs (S B : List ℕ) (r : Opened) (B' : List ℕ) : Type 0 where
-  pub answer : open_meaning r ≡ open_answer S B
+-- what open promises, of what it answers and of the book before and after
+pub record OpenIs (S B : List ℕ) (a : Outcome (Unit {0})) (B' : List ℕ) : Type 0 where
+  pub answer : a ≡ open_answer S B
   pub book : B' ≡ open_book S B

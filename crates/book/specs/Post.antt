@@ -3,25 +3,21 @@
 -- S is the schedule, l what it holds, R the record, B the book.
 -- Assumes nothing.
 use Rattle.std.specs.Prelude.{ℕ, Bool, true, false, cond, not, List, ◌≡◌, length}
-use Rattle.schedule.specs.Outcome.{Outcome, refused, good, follow, given, asked}
+use Rattle.refusals.specs.Outcome.{Outcome, refused, good, follow, given, asked}
 use Rattle.lookup.specs.declared.Layout.{Layout}
 use Rattle.activity.specs.Activity.{day}
 use Rattle.filing.specs.Causes.{firm_place_of, group_place_of, record_causes, is_counted_record}
 use Rattle.cell.specs.Entry.{entered, cell_causes}
 use Rattle.cell.specs.declared.Cell.{Cell}
 use Rattle.book.specs.Book.{index, cell_at, with_cell, check_book}
-use Rattle.book.specs.declared.posting.Posted.{Posted}
-use Rattle.book.specs.declared.posting.Posted.TheVariants as posted
-
--- what a post does that isn't refused
-pub data Effect : Type 0 where
-  outside counted : Effect
+use Rattle.book.specs.declared.posting.Effect.{Effect}
+use Rattle.book.specs.declared.posting.Effect.TheVariants as effect
 
 -- the record is taken into its cell: the answer is "counted"
 abbrev pub is_taken : Outcome Effect → Bool
 is_taken (refused number offset) = false
-is_taken (good outside) = false
-is_taken (good counted) = true
+is_taken (good effect.Outside) = false
+is_taken (good effect.Counted) = true
 
 module _ (S : List ℕ) (l : Layout) where
   -- where the record's cell stands in the book
@@ -32,15 +28,9 @@ module _ (S : List ℕ) (l : Layout) where
   unfoldable pub taking : (c : Cell) → (R : List ℕ) → Outcome Effect
   taking c R =
       asked (record_causes S l R) (
-      cond (not (is_counted_record S l R)) (good outside) (
+      cond (not (is_counted_record S l R)) (good effect.Outside) (
       asked (cell_causes c R) (
-      good counted)))
-
--- what a post's answer means
-abbrev pub post_meaning : Posted → Outcome Effect
-post_meaning (posted.Refused number offset) = refused number offset
-post_meaning posted.Outside = good outside
-post_meaning posted.Counted = good counted
+      good effect.Counted)))
 
 module _ (S B R : List ℕ) where
   -- Post: all is asked of the cell as it stands in the book
@@ -59,12 +49,12 @@ module _ (S B R : List ℕ) where
   abbrev pub post_book : List ℕ
   post_book = given (check_book S (length B)) B book_under
 
--- what post promises, of the book before and after
-pub record PostIs (S B R : List ℕ) (r : Posted) (B' : List ℕ) : Type 0 where
-  pub answer : post_meaning r ≡ post_answer S B R
+-- what post promises, of what it answers and of the book before and after
+pub record PostIs (S B R : List ℕ) (a : Outcome Effect) (B' : List ℕ) : Type 0 where
+  pub answer : a ≡ post_answer S B R
   pub book : B' ≡ post_book S B R
 
 -- what entering the counted record R into the cell at i promises
-pub record EnterIs (B : List ℕ) (i : ℕ) (R : List ℕ) (r : Posted) (B' : List ℕ) : Type 0 where
-  pub answer : post_meaning r ≡ asked (cell_causes (cell_at B i) R) (good counted)
-  pub book : B' ≡ cond (is_taken (asked (cell_causes (cell_at B i) R) (good counted))) (with_cell B i (entered (cell_at B i) R)) B
+pub record EnterIs (B : List ℕ) (i : ℕ) (R : List ℕ) (a : Outcome Effect) (B' : List ℕ) : Type 0 where
+  pub answer : a ≡ asked (cell_causes (cell_at B i) R) (good effect.Counted)
+  pub book : B' ≡ cond (is_taken (asked (cell_causes (cell_at B i) R) (good effect.Counted))) (with_cell B i (entered (cell_at B i) R)) B

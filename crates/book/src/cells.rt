@@ -1,12 +1,14 @@
 // Where the cells stand in the book, and how many numbers it needs.
 ghost use Rattle.std.specs.Prelude.{◌≡◌, ◌+◌, ◌^◌, ◌≤◌, ◌<◌, length, get_or};
-ghost use Rattle.schedule.specs.Check.{check_meaning};
+ghost use Rattle.refusals.specs.Outcome.{outcome};
 ghost use Rattle.book.specs.Book.{width, size, index, cell_at, with_cell, cells, check_book};
 
 use cell::Cell;
 use lookup::Layout;
+use refusals::{Cause, Refusal};
 use rules::Totals;
-use schedule::{Checked, check};
+use schedule::check;
+use wire::within;
 
 // How many numbers a cell has.
 const WIDTH: usize = 4;
@@ -34,7 +36,7 @@ pub(crate) fn cell_index(groups: u8, firm: usize, group: usize, day: u8) -> usiz
 fn number_at(book: &[u64], i: usize) -> u64
     ensures { result ≡ get_or book.now i 0 }
 {
-    if i < book.len() { book[i] } else { 0 }
+    book.get(i).copied().unwrap_or(0)
 }
 
 // The cell at a place.
@@ -67,7 +69,7 @@ const EMPTY: Cell = Cell {
 pub fn cell_in(book: &[u64], groups: u8, firm: u8, group: u8, day: u8) -> Cell
     ensures { result ≡ cells groups book.now firm group day }
 {
-    if !((group < groups) & ((1 <= day) & (day <= 31))) {
+    if !((group < groups) & within(1, 31, day as u32)) {
         return EMPTY;
     }
     cell_at(book, cell_index(groups, firm as usize, group as usize, day))
@@ -85,20 +87,13 @@ pub(crate) fn store_cell(book: &mut [u64], at: usize, cell: Cell)
     book[at + 3] = cell.edition;
 }
 
-// The schedule and the size of a book: refusals 1 to 8, or what the schedule holds.
-pub fn check_book(schedule: &[u8], numbers: usize) -> Checked
-    ensures { check_meaning result ≡ check_book schedule.now numbers }
+// The schedule and the size of a book: refused by 1 to 8, or what the schedule holds.
+pub fn check_book(schedule: &[u8], numbers: usize) -> Result<Layout, Refusal>
+    ensures { outcome result ≡ check_book schedule.now numbers }
 {
-    match check(schedule) {
-        Checked::Refused { number, offset } => Checked::Refused { number, offset },
-        Checked::Good(l) => {
-            if numbers < book_size(l) {
-                return Checked::Refused {
-                    number: 8,
-                    offset: 0,
-                };
-            }
-            Checked::Good(l)
-        }
+    let l = check(schedule)?;
+    if numbers < book_size(l) {
+        return Err(Refusal::from(Cause::ShortBook));
     }
+    Ok(l)
 }

@@ -6,5 +6,5 @@ mod opening;
 mod posting;
 
 pub use cells::{PER_FIRM_GROUP, cell_in, check_book};
-pub use opening::{Opened, open};
-pub use posting::{Posted, post};
+pub use opening::open;
+pub use posting::{Effect, post};

@@ -1,47 +1,46 @@
 // Posting a record to the book.
 ghost use Rattle.std.specs.Prelude.{◌≡◌, ◌+◌, ◌≤◌, length};
-ghost use Rattle.schedule.specs.Outcome.{good};
+ghost use Rattle.refusals.specs.Outcome.{good, outcome, outcome_at_front};
 ghost use Rattle.book.specs.Book.{width, check_book};
 ghost use Rattle.book.specs.Post.{EnterIs, PostIs};
 
 use crate::cells::{cell_at, cell_index, check_book, store_cell};
 use activity::DAY;
-use cell::{Entry, entry_of};
+use cell::entry_of;
 use filing::{Filed, file};
 use lookup::Layout;
-use schedule::Checked;
+use refusals::{Cause, Refusal};
 use wire::byte_at;
 
-// A refusal's number and offset, or what the post did: nothing, or the record was taken into its cell.
-#[derive(Clone, Copy)]
-pub enum Posted {
-    Refused { number: u8, offset: usize },
+// What a post does that isn't refused: nothing, or the record is taken into its cell.
+#[derive(Clone, Copy, Debug, PartialEq, Eq)]
+pub enum Effect {
     Outside,
     Counted,
 }
 
 // Enters a counted record into the cell at a place, unless the cell's causes refuse it.
-fn enter(book: &mut [u64], at: usize, record: &[u8]) -> Posted
+fn enter(book: &mut [u64], at: usize, record: &[u8]) -> Result<Effect, Cause>
     requires { at + width ≤ length book.old }
-    ensures { EnterIs book.old at «record».now result book.new }
+    ensures { EnterIs book.old at «record».now (outcome_at_front result) book.new }
 {
-    match entry_of(cell_at(book, at), record) {
-        Entry::Refused(number) => Posted::Refused { number, offset: 0 },
-        Entry::Entered(cell) => {
-            store_cell(book, at, cell);
-            Posted::Counted
-        }
-    }
+    let cell = entry_of(cell_at(book, at), record)?;
+    store_cell(book, at, cell);
+    Ok(Effect::Counted)
 }
 
 // A post to a book that has the numbers that the schedule asks for.
-fn post_checked(schedule: &[u8], l: Layout, book: &mut [u64], record: &[u8]) -> Posted
+fn post_checked(
+    schedule: &[u8],
+    l: Layout,
+    book: &mut [u64],
+    record: &[u8],
+) -> Result<Effect, Cause>
     requires { check_book schedule.now (length book.old) ≡ good l }
-    ensures { PostIs schedule.now book.old «record».now result book.new }
+    ensures { PostIs schedule.now book.old «record».now (outcome_at_front result) book.new }
 {
-    match file(schedule, l, record) {
-        Filed::Refused(number) => Posted::Refused { number, offset: 0 },
-        Filed::Outside => Posted::Outside,
+    match file(schedule, l, record)? {
+        Filed::Outside => Ok(Effect::Outside),
         Filed::At { firm, group } => {
             let at = cell_index(l.groups, firm, group, byte_at(record, DAY));
             enter(book, at, record)
@@ -51,11 +50,9 @@ fn post_checked(schedule: &[u8], l: Layout, book: &mut [u64], record: &[u8]) -> 
 
 // Posts one record: activity adds to its cell, a correction replaces it; or the record is outside, or refused. The book changes only where
 // the record is counted.
-pub fn post(schedule: &[u8], book: &mut [u64], record: &[u8]) -> Posted
-    ensures { PostIs schedule.now book.old «record».now result book.new }
+pub fn post(schedule: &[u8], book: &mut [u64], record: &[u8]) -> Result<Effect, Refusal>
+    ensures { PostIs schedule.now book.old «record».now (outcome result) book.new }
 {
-    match check_book(schedule, book.len()) {
-        Checked::Refused { number, offset } => Posted::Refused { number, offset },
-        Checked::Good(l) => post_checked(schedule, l, book, record),
-    }
+    let l = check_book(schedule, book.len())?;
+    Ok(post_checked(schedule, l, book, record)?)
 }

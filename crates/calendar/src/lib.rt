@@ -2,7 +2,7 @@
 #![tactic(auto)]
 
 ghost use Rattle.std.specs.Prelude.{◌≡◌};
-ghost use Rattle.calendar.specs.Calendar.{is_month, is_leap_february, days_in, in_effect};
+ghost use Rattle.calendar.specs.Calendar.{is_month, is_leap_february, days_in, has_day, in_effect};
 
 use wire::within;
 
@@ -32,15 +32,16 @@ pub fn days_in(month: u16) -> u8
     MONTH_DAYS[i]
 }
 
+// Whether a day is one of the month's.
+pub fn has_day(month: u16, day: u8) -> bool
+    ensures { result ≡ has_day month day }
+{
+    (1..=days_in(month)).contains(&day)
+}
+
 // Whether a day, from 1, of the month is in effect, where the bits of `closed` are set for the days that are not.
 pub fn in_effect(month: u16, closed: u32, day: u8) -> bool
     ensures { result ≡ in_effect month closed day }
 {
-    if day < 1 {
-        return false;
-    }
-    if days_in(month) < day {
-        return false;
-    }
-    (closed >> (day - 1)) % 2 == 0
+    has_day(month, day) && (closed >> (day - 1)) % 2 == 0
 }

@@ -3,14 +3,12 @@
 -- Assumes nothing.
 use Rattle.std.specs.Prelude.{ℕ, Bool, cond, not, ◌&&◌, List, [], ◌∷◌, leb, ltb}
 use Rattle.rules.specs.Verdict.{fits}
-use Rattle.schedule.specs.Outcome.{Outcome, refused, good, asked}
+use Rattle.refusals.specs.Outcome.{Outcome, good, asked}
 use Rattle.activity.specs.Activity.{is_activity, totals_of}
 use Rattle.activity.specs.Correction.{correction_fields}
 use Rattle.activity.specs.declared.correction.Correction.{Correction}
 use Rattle.cell.specs.Cell.{grown}
 use Rattle.cell.specs.declared.Cell.{Cell}
-use Rattle.cell.specs.declared.Entry.{Entry}
-use Rattle.cell.specs.declared.Entry.TheVariants as entry
 
 -- 2.3: a correction sets its cell's totals and edition to its own
 abbrev pub corrected : Correction → Cell
@@ -28,11 +26,6 @@ cell_causes c R =
     (cond (is_activity R) (ltb 0 c.edition) (leb (correction_fields R).edition c.edition), 32)
     ∷ (is_activity R && not (fits 1 (grown c (totals_of R)).totals), 18)
     ∷ []
-
--- what an entry means: a refusal, or the cell after the record
-abbrev pub entry_meaning : Entry → Outcome Cell
-entry_meaning (entry.Refused number) = refused number 0
-entry_meaning (entry.Entered c) = good c
 
 -- what a counted record comes to in its cell
 abbrev pub entry_of : (c : Cell) → (R : List ℕ) → Outcome Cell

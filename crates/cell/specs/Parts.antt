@@ -3,7 +3,7 @@
 use Rattle.std.specs.Prelude.{not, [], ◌∷◌, leb, ltb}
 use Rattle.rules.specs.Verdict.{fits}
 use Rattle.rules.specs.declared.Totals.{Totals}
-use Rattle.schedule.specs.Outcome.{Outcome, good, asked}
+use Rattle.refusals.specs.Outcome.{Outcome, good, asked}
 use Rattle.activity.specs.declared.correction.Correction.{Correction}
 use Rattle.cell.specs.Cell.{grown}
 use Rattle.cell.specs.Entry.{corrected}

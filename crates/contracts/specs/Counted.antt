@@ -1,6 +1,6 @@
 -- Which of a group's listed contracts are counted (document 01, "Records"; the Program, section 2). B is the group's body.
 -- Assumes nothing.
-use Rattle.std.specs.Prelude.{ℕ, ◌%◌, Bool, not, ◌&&◌, ◌||◌, List, [], ◌∷◌, ◌≡◌, leb, eqb}
+use Rattle.std.specs.Prelude.{ℕ, ◌%◌, Bool, cond, not, ◌&&◌, ◌||◌, List, [], ◌∷◌, ◌≡◌, Option, Some, None, leb, eqb}
 use Rattle.wire.specs.Choose.{choose, seek, some}
 use Rattle.wire.specs.Sums.{count}
 use Rattle.calendar.specs.Calendar.{bit_at}
@@ -45,9 +45,17 @@ contract_is B m i = eqb (contract B i) m
 unfoldable pub contract_listed : List ℕ → (m : ℕ) → Bool
 contract_listed B m = some (listed B) (contract_is B m)
 
--- and counts it
+-- the place of the first that is, from 0; the number of contracts, where it is unlisted
+abbrev pub contract_place : List ℕ → (m : ℕ) → ℕ
+contract_place B m = seek 0 (listed B) (contract_is B m)
+
+-- what a search for a contract finds
+unfoldable pub contract_found : List ℕ → (m : ℕ) → Option ℕ
+contract_found B m = cond (contract_listed B m) (Some (contract_place B m)) None
+
+-- the group counts it
 unfoldable pub contract_counted : List ℕ → (m : ℕ) → Bool
-contract_counted B m = is_counted B (seek 0 (listed B) (contract_is B m))
+contract_counted B m = is_counted B (contract_place B m)
 
 -- what a contract comes to: the number of a refusal, outside or counted
 pub data Taken : Type 0 where

@@ -1,16 +1,14 @@
 // Which of a group's listed contracts are counted.
 ghost use Rattle.std.specs.Prelude.{◌≡◌, ◌≤◌, ◌<◌, ◌&&◌, leb};
-ghost use Rattle.wire.specs.Choose.{seek};
 ghost use Rattle.records.specs.Fields.{group_fields};
 ghost use Rattle.contracts.specs.Listing.{listed};
-ghost use Rattle.contracts.specs.Counted.{in_mask, contract_is, PassedIs, is_counted, status_meaning, status_of};
+ghost use Rattle.contracts.specs.Counted.{in_mask, PassedIs, is_counted, contract_found, status_meaning, status_of};
 
 use crate::listing::{contract_at, listed_in};
 use records::{Group, group_fields};
-use wire::bit;
 
 // How a group takes a contract.
-#[derive(Clone, Copy)]
+#[derive(Clone, Copy, Debug, PartialEq, Eq)]
 pub enum Status {
     Unlisted,
     Listed,
@@ -34,10 +32,7 @@ fn in_mask(mask: u16, m: u16) -> bool
 fn is_late(g: Group, front: usize, m: u16) -> bool
     ensures { result ≡ leb g.k front && in_mask g.extra m }
 {
-    if front < g.k as usize {
-        return false;
-    }
-    in_mask(g.extra, m)
+    usize::from(g.k) <= front && in_mask(g.extra, m)
 }
 
 // What stands before place n of the listing of a group with the fields g.
@@ -46,14 +41,12 @@ fn passed_before(body: &[u8], g: Group, n: usize) -> Passed
     requires g_value { g ≡ group_fields body.now }
     ensures { PassedIs body.now n result }
 {
-    let mut front: usize = 0;
-    let mut extra: usize = 0;
-    let mut i: usize = 0;
-    while i < n {
+    let mut front = 0;
+    let mut extra = 0;
+    for i in 0..n {
         let m = contract_at(body, i);
-        extra += bit(is_late(g, front, m)) as usize;
-        front += bit(in_mask(g.front, m)) as usize;
-        i += 1;
+        extra += usize::from(is_late(g, front, m));
+        front += usize::from(in_mask(g.front, m));
     }
     Passed { front, extra }
 }
@@ -66,40 +59,27 @@ fn is_counted(body: &[u8], g: Group, i: usize) -> bool
 {
     let passed = passed_before(body, g, i);
     let m = contract_at(body, i);
-    if passed.front < g.k as usize {
-        return in_mask(g.front, m);
+    if passed.front < usize::from(g.k) {
+        in_mask(g.front, m)
+    } else {
+        passed.extra == 0 && in_mask(g.extra, m)
     }
-    if passed.extra != 0 {
-        return false;
-    }
-    in_mask(g.extra, m)
 }
 
-// The place of a contract in a group's listing, the end where it isn't listed.
-fn seek_contract(body: &[u8], m: u16) -> usize
-    ensures { result ≡ seek 0 (listed body.now) (contract_is body.now m) }
+// The place of a contract in a group's listing, where it is listed.
+fn find_contract(body: &[u8], m: u16) -> Option<usize>
+    ensures { result ≡ contract_found body.now m }
 {
-    let n = listed_in(body);
-    let mut i: usize = 0;
-    while i < n {
-        if contract_at(body, i) == m {
-            return i;
-        }
-        i += 1;
-    }
-    i
+    (0..listed_in(body)).find(|&i| contract_at(body, i) == m)
 }
 
 // How the group with this body takes a contract.
 pub fn contract_status(body: &[u8], contract: u16) -> Status
     ensures { status_meaning result ≡ status_of body.now contract }
 {
-    let i = seek_contract(body, contract);
-    if listed_in(body) <= i {
-        return Status::Unlisted;
+    match find_contract(body, contract) {
+        None => Status::Unlisted,
+        Some(i) if is_counted(body, group_fields(body), i) => Status::Counted,
+        Some(_) => Status::Listed,
     }
-    if is_counted(body, group_fields(body), i) {
-        return Status::Counted;
-    }
-    Status::Listed
 }

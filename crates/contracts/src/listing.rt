@@ -9,16 +9,15 @@ use wire::u16_at;
 const CONTRACTS: usize = 12;
 
 // How many contracts a group's body lists.
+#[tactic(auto, unfolding(crate::specs::Listing::listed))]
 pub(crate) fn listed_in(body: &[u8]) -> usize
     ensures { result ≡ listed body.now }
 {
-    if body.len() < CONTRACTS {
-        return 0;
-    }
-    (body.len() - CONTRACTS) / 2
+    body.len().saturating_sub(CONTRACTS) / 2
 }
 
 // The month number of listed contract i.
+#[tactic(auto, unfolding(crate::specs::Listing::listed, crate::specs::Listing::contract))]
 pub(crate) fn contract_at(body: &[u8], i: usize) -> u16
     requires { i < listed body.now }
     ensures { result ≡ contract body.now i }
@@ -30,19 +29,13 @@ pub(crate) fn contract_at(body: &[u8], i: usize) -> u16
 pub fn contracts_ok(body: &[u8]) -> bool
     ensures { result ≡ contracts_ok body.now }
 {
-    let n = listed_in(body);
-    let mut i: usize = 0;
-    let mut last: u16 = 0;
-    while i < n {
+    let mut last = 0;
+    for i in 0..listed_in(body) {
         let m = contract_at(body, i);
-        if !is_month(m) {
-            return false;
-        }
-        if m <= last {
+        if !is_month(m) || m <= last {
             return false;
         }
         last = m;
-        i += 1;
     }
     true
 }

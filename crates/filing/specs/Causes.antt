@@ -2,13 +2,12 @@
 -- refusal" and "The book and its calls", and document 02, 2.3). S is the schedule, l what it holds, R the record.
 -- Assumes nothing.
 use Rattle.std.specs.Prelude.{ℕ, Bool, true, cond, not, ◌&&◌, ◌||◌, List, [], ◌∷◌, ◌++◌, ltb, eqb, length}
-use Rattle.wire.specs.Choose.{within}
-use Rattle.calendar.specs.Calendar.{days_in, in_effect}
+use Rattle.calendar.specs.Calendar.{has_day, in_effect}
 use Rattle.records.specs.Bodies.{length_at, body_at}
 use Rattle.contracts.specs.Counted.{contract_listed, contract_counted}
 use Rattle.lookup.specs.Lookup.{group_start, group_place, group_listed, firm_place, firm_listed}
 use Rattle.lookup.specs.declared.Layout.{Layout}
-use Rattle.activity.specs.Activity.{activity_length, is_activity, firm_code, day, group_first, group_second, contract_of}
+use Rattle.activity.specs.Activity.{activity_length, is_activity, firm_code, day, group_code, contract_of}
 use Rattle.activity.specs.Correction.{correction_length, is_correction, correction_fields, is_sound}
 
 -- Records and 2.3: the length of the record's kind, 44 or 32; no other kind is asked for its length, as 12 refuses it
@@ -34,7 +33,7 @@ module _ (S : List ℕ) (l : Layout) where
 
   -- the place of its group, likewise
   abbrev pub group_place_of : (R : List ℕ) → ℕ
-  group_place_of R = group_place S l (group_first R) (group_second R)
+  group_place_of R = group_place S l (group_code R)
 
   -- its group's body in the schedule
   abbrev pub group_body : (R : List ℕ) → List ℕ
@@ -45,8 +44,8 @@ module _ (S : List ℕ) (l : Layout) where
   abbrev pub list_causes : (R : List ℕ) → List (Bool × ℕ)
   list_causes R =
       (not (firm_listed S l (firm_code R)), 14)
-      ∷ (not (group_listed S l (group_first R) (group_second R)), 15)
-      ∷ (not (within 1 (days_in l.month) (day R)), 16)
+      ∷ (not (group_listed S l (group_code R)), 15)
+      ∷ (not (has_day l.month (day R)), 16)
       ∷ (is_activity R && not (contract_listed (group_body R) (contract_of R)), 17)
       ∷ []
 

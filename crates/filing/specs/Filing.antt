@@ -1,10 +1,13 @@
 -- How a schedule takes a posted record (document 01, "The book and its calls", post, and document 02, 2.3). S is the schedule, l what it holds, R the
 -- record.
 -- Assumes nothing.
-use Rattle.std.specs.Prelude.{ℕ, Bool, cond, List, ◌≡◌, eqb}
+use Rattle.std.specs.Prelude.{ℕ, Bool, cond, List, Result, Ok, Err, ◌≡◌, eqb}
 use Rattle.wire.specs.Choose.{choose}
+use Rattle.refusals.specs.Outcome.{number_of}
+use Rattle.refusals.specs.declared.Cause.{Cause}
 use Rattle.contracts.specs.Counted.{Taken, counted, status_of}
-use Rattle.lookup.specs.Lookup.{group_start}
+use Rattle.lookup.specs.Lookup.{group_found_at}
+use Rattle.lookup.specs.declared.GroupPlace.{GroupPlace}
 use Rattle.lookup.specs.declared.Layout.{Layout}
 use Rattle.activity.specs.Activity.{is_activity, contract_of}
 use Rattle.filing.specs.Causes.{firm_place_of, group_place_of, record_causes, is_counted_record}
@@ -22,10 +25,10 @@ abbrev pub contract_taken : (G R : List ℕ) → Taken
 contract_taken G R = cond (is_activity R) (status_of G (contract_of R)) counted
 
 -- what the answer means
-abbrev pub filed_meaning : Filed → Filing
-filed_meaning (filed.Refused number) = refused_by number
-filed_meaning filed.Outside = is_outside
-filed_meaning (filed.At firm group) = counted_in firm group
+abbrev pub filed_meaning : Result Filed Cause → Filing
+filed_meaning (Err c) = refused_by (number_of c)
+filed_meaning (Ok filed.Outside) = is_outside
+filed_meaning (Ok (filed.At firm group)) = counted_in firm group
 
 module _ (S : List ℕ) (l : Layout) (R : List ℕ) where
   -- Post: where none of these causes refuses the record it is outside, or counted
@@ -39,7 +42,6 @@ module _ (S : List ℕ) (l : Layout) (R : List ℕ) where
   filing_of = filing_by (record_causes S l R)
 
   -- the record's firm and group were found: their places, and where the group's record stands
-  pub record FoundIs (firm group offset : ℕ) : Type 0 where
+  pub record FoundIs (firm : ℕ) (group : GroupPlace) : Type 0 where
     pub firm_is : firm ≡ firm_place_of S l R
-    pub group_is : group ≡ group_place_of S l R
-    pub offset_is : offset ≡ group_start S l.first (group_place_of S l R)
+    pub group_is : group ≡ group_found_at S l (group_place_of S l R)

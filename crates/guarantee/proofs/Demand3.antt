@@ -24,8 +24,9 @@ use Rattle.rules.specs.Month.{DailyTotals}
 use Rattle.rules.specs.Marks.{places, day_of, group_of, Judged, is_billed, mark, violations, marked, billed, amount}
 use Rattle.rules.specs.Laws.{Laws}
 use Rattle.rules.proofs.Laws.{falling96, laws as rules_laws}
-use Rattle.schedule.specs.Outcome.{Outcome, refused, good, follow}
-use Rattle.lookup.specs.Lookup.{group_at, firm_place, firm_listed, found, firm_found}
+use Rattle.refusals.specs.Outcome.{Outcome, refused, good, follow}
+use Rattle.std.specs.Prelude.{Some}
+use Rattle.lookup.specs.Lookup.{group_at, firm_place, firm_listed, firm_found}
 use Rattle.schedule.specs.Check.{check_of}
 use Rattle.lookup.specs.declared.Layout.{Layout}
 use Rattle.schedule.proofs.Good.{refused-good}
@@ -162,7 +163,7 @@ module _ (S C : List ℕ) (l : Layout) (listed : firm_listed S l C ≡ true) whe
   unfolding firm_listed
   place_inside = ltb-true _ _ listed
 
-  place_found : firm_found S l C ≡ found (firm_place S l C)
+  place_found : firm_found S l C ≡ Some (firm_place S l C)
   unfolding firm_found
   place_found = rw listed
 

@@ -23,7 +23,7 @@ use Rattle.lookup.specs.Lookup.{group_at}
 use Rattle.lookup.specs.declared.Layout.{Layout}
 use Rattle.month.specs.Month.{terms}
 use Rattle.statement.specs.Layout.{line_size}
-use Rattle.statement.specs.Lines.{line_bytes, line_at, lines, tally, totals_bytes, shown}
+use Rattle.statement.specs.Lines.{first_letter, second_letter, line_bytes, line_at, lines, tally, totals_bytes, shown}
 use Rattle.statement.specs.Statement.{statement_bytes}
 use Rattle.statement.proofs.Shown.{line_some, lines_length, mark_some}
 use Rattle.guarantee.specs.Demand3.{layout, is_listed, month_after}
@@ -39,7 +39,7 @@ module _ (S : List ℕ) (l : Layout) (j : Judged) (i : ℕ) where
   before = count i (λ k. is_violation (j.verdict k).code)
 
   abbrev line : List ℕ
-  line = let g = group_at S l (group_of i) in line_bytes version96 (day_of i) g.first g.second (mark version96 j i) (j.verdict i).factor
+  line = let g = group_at S l (group_of i) in line_bytes version96 (day_of i) (first_letter g) (second_letter g) (mark version96 j i) (j.verdict i).factor
 
   -- the lines before it
   lines_before : length (joined i at) ≡ line_size * before
@@ -69,7 +69,7 @@ cost_small mark = let c : cost version96 mark ≤ 1000 = cond_le (is_billed mark
 
 -- what stands at a line's places, whatever stands behind it
 reads : (day mark : ℕ) (g : Group) (v : Verdict) (ys : List ℕ)
-    → LineIs version96 (line_bytes version96 day g.first g.second mark v.factor ++ ys) day g mark v
+    → LineIs version96 (line_bytes version96 day (first_letter g) (second_letter g) mark v.factor ++ ys) day g mark v
 unfolding u32_at u16_at
 reads day mark g v ys =
     record {

@@ -9,7 +9,7 @@ use Rattle.rules.specs.Marks.{Judged, violations, marked, billed, amount}
 use Rattle.rules.specs.Lighter.{LighterMonth}
 use Rattle.rules.specs.declared.Rules.{Rules}
 use Rattle.records.specs.Bodies.{length_at, kind_at}
-use Rattle.schedule.specs.Outcome.{Outcome, refused, good, given}
+use Rattle.refusals.specs.Outcome.{Outcome, refused, good, given}
 use Rattle.lookup.specs.Lookup.{firm_listed, firm_place}
 use Rattle.schedule.specs.Check.{nothing, check_of}
 use Rattle.lookup.specs.InForce.{rules_of}

@@ -12,6 +12,7 @@ use Rattle.records.specs.declared.fields.Group.{Group}
 use Rattle.lookup.specs.Lookup.{group_at}
 use Rattle.lookup.specs.InForce.{rules_of}
 use Rattle.statement.specs.Layout.{line_size, line_kind, line_day, line_first, line_second, line_mark, line_dollars, line_factor}
+use Rattle.statement.specs.Lines.{first_letter, second_letter}
 use Rattle.guarantee.specs.Demand3.{layout, totals_after, month_after, Run, output_of}
 
 -- a line L under the rules P: its day, its group's code, its mark and what that costs, and the factor of its verdict
@@ -19,8 +20,8 @@ pub record LineIs (P : Rules) (L : List ℕ) (day : ℕ) (group : Group) (mark :
   pub length : length_at L 0 ≡ line_size
   pub kind : kind_at L 0 ≡ line_kind
   pub day_is : line_day L ≡ day
-  pub first : line_first L ≡ group.first
-  pub second : line_second L ≡ group.second
+  pub first : line_first L ≡ first_letter group
+  pub second : line_second L ≡ second_letter group
   pub mark_is : line_mark L ≡ mark
   pub dollars : line_dollars L ≡ cost P mark
   -- 2.1: the factor in the last byte

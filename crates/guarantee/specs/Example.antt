@@ -13,7 +13,7 @@ use Rattle.rules.specs.declared.Totals.{Totals}
 use Rattle.records.specs.Fields.{head_fields, head_ok, group_fields, group_in_range, is_letter, firm_fields, firm_ok, has_code}
 use Rattle.contracts.specs.Listing.{contracts_ok, contract_bad, before, contract, listed}
 use Rattle.contracts.specs.Counted.{contract_listed, contract_counted, in_front, is_after, is_counted, contract_is}
-use Rattle.schedule.specs.Outcome.{Outcome, refused, good}
+use Rattle.refusals.specs.Outcome.{Outcome, refused, good}
 use Rattle.lookup.specs.Lookup.{group_start, group_is, firm_is, group_listed, firm_listed}
 use Rattle.schedule.specs.Check.{check_of, scan, ending, with_record, cause, is_repeated, fields_ok, is_full, length_ok, is_due, kind_of}
 use Rattle.activity.specs.Activity.{totals_of}

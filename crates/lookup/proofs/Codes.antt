@@ -7,6 +7,7 @@ use lib.ListN.{get_or}
 use lib.Seq.{get_or-drop}
 use Rattle.records.specs.Bodies.{rest_at}
 use Rattle.records.specs.Fields.{group_fields, firm_fields, has_code}
+use Rattle.records.proofs.Parts.{code-letters, pair-letters}
 use Rattle.lookup.specs.Lookup.{group_start, firm_start, group_is, firm_is}
 use Rattle.lookup.specs.Codes.{CodesStand}
 
@@ -19,8 +20,10 @@ pub codes_stand : (S : List ℕ) → CodesStand S
 unfolding group_is firm_is group_fields firm_fields has_code
 codes_stand S =
     record {
-      group = λ first x y i. let at = group_start S first i in rw (rest_byte S at 0 4 (omega arith), rest_byte S at 1 5 (omega arith));
+      group = λ first C i.
+          let at = group_start S first i in
+          pair-letters _ _ C ∙ rw (rest_byte S at 0 4 (omega arith), rest_byte S at 1 5 (omega arith));
       firm = λ start C i.
           let at = firm_start start i in
-          rw (rest_byte S at 0 4 (omega arith), rest_byte S at 1 5 (omega arith), rest_byte S at 2 6 (omega arith));
+          code-letters _ _ _ C ∙ rw (rest_byte S at 0 4 (omega arith), rest_byte S at 1 5 (omega arith), rest_byte S at 2 6 (omega arith));
     }

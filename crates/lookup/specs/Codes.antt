@@ -5,8 +5,12 @@ use Rattle.wire.specs.Choose.{all}
 use Rattle.lookup.specs.Lookup.{group_start, firm_start, group_is, firm_is}
 
 pub record CodesStand (S : List ℕ) : Type 0 where
-  pub group : (first x y i : ℕ) → group_is S first x y i
-      ≡ all (eqb (get_or S (group_start S first i + 4) 0) x ∷ eqb (get_or S (group_start S first i + 5) 0) y ∷ [])
+  pub group : (first : ℕ) (C : List ℕ) (i : ℕ) → group_is S first C i
+      ≡ all
+      (eqb (length C) 2
+      ∷ eqb (get_or S (group_start S first i + 4) 0) (get_or C 0 0)
+      ∷ eqb (get_or S (group_start S first i + 5) 0) (get_or C 1 0)
+      ∷ [])
   pub firm : (start : ℕ) (C : List ℕ) (i : ℕ) → firm_is S start C i
       ≡ all
       (eqb (length C) 3

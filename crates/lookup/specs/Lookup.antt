@@ -1,16 +1,14 @@
 -- Where the groups and firms of a schedule stand, and which of them has a code (document 01, "Records"). S is the schedule, l what it holds.
 -- `Layout` is the struct of src/lib.rt: month, days not in effect, how many groups and firms, and where the first of each stands.
 -- Assumes nothing.
-use Rattle.std.specs.Prelude.{ℕ, zero, suc, ◌+◌, ◌*◌, Bool, cond, List, [], ◌∷◌, eqb}
-use Rattle.wire.specs.Choose.{all, seek, some}
+use Rattle.std.specs.Prelude.{ℕ, zero, suc, ◌+◌, ◌*◌, Bool, cond, List, Option, Some, None}
+use Rattle.std.specs.Str.{bytes_eq}
+use Rattle.wire.specs.Choose.{seek, some}
 use Rattle.records.specs.Bodies.{length_at, rest_at, body_at, firm_size}
 use Rattle.records.specs.Fields.{group_fields, firm_fields, has_code}
 use Rattle.records.specs.declared.fields.Group.{Group}
 use Rattle.lookup.specs.declared.Layout.{Layout}
-use Rattle.lookup.specs.declared.FoundGroup.{FoundGroup}
-use Rattle.lookup.specs.declared.FoundGroup.TheVariants as group
-use Rattle.lookup.specs.declared.FoundFirm.{FoundFirm}
-use Rattle.lookup.specs.declared.FoundFirm.TheVariants as firm
+use Rattle.lookup.specs.declared.GroupPlace.{GroupPlace}
 
 -- where group i stands, the first at `first`: each other after the one before
 unfoldable pub group_start : (S : List ℕ) → (first i : ℕ) → ℕ
@@ -21,48 +19,38 @@ group_start S first (suc i) = group_start S first i + length_at S (group_start S
 abbrev pub firm_start : (start i : ℕ) → ℕ
 firm_start start i = start + firm_size * i
 
--- the record at `at` has the group code of the letters x and y, whatever its length says
-abbrev pub group_has : (S : List ℕ) → (at x y : ℕ) → Bool
-group_has S at x y = all (eqb (group_fields (rest_at S at)).first x ∷ eqb (group_fields (rest_at S at)).second y ∷ [])
+-- the record at `at` has the group code C, whatever its length says
+abbrev pub group_has : (S : List ℕ) → (at : ℕ) → (C : List ℕ) → Bool
+group_has S at C = bytes_eq (group_fields (rest_at S at)).code C
 
 -- group i has that code
-unfoldable pub group_is : (S : List ℕ) → (first x y i : ℕ) → Bool
-group_is S first x y i = group_has S (group_start S first i) x y
+unfoldable pub group_is : (S : List ℕ) → (first : ℕ) → (C : List ℕ) → (i : ℕ) → Bool
+group_is S first C i = group_has S (group_start S first i) C
 
 -- firm i has the code C
 unfoldable pub firm_is : (S : List ℕ) → (start : ℕ) → (C : List ℕ) → (i : ℕ) → Bool
 firm_is S start C i = has_code (firm_fields (rest_at S (firm_start start i))) C
-
--- what a search by code finds: where it is listed, or that it is unlisted
-pub data Found (A : Type 0) : Type 0 where
-  found : A → Found A
-  unlisted : Found A
-
--- a group that was found: its place, and its record's offset
-pub record GroupPlace : Type 0 where
-  pub index : ℕ
-  pub offset : ℕ
 
 module _ (S : List ℕ) (l : Layout) where
   -- the fields of group g, from 0
   abbrev pub group_at : (g : ℕ) → Group
   group_at g = group_fields (body_at S (group_start S l.first g))
 
-  -- one of the groups has the code
-  unfoldable pub group_listed : (x y : ℕ) → Bool
-  group_listed x y = some l.groups (group_is S l.first x y)
+  -- one of the groups has the code C
+  unfoldable pub group_listed : (C : List ℕ) → Bool
+  group_listed C = some l.groups (group_is S l.first C)
 
   -- the place of the first that has it, from 0; the number of groups, where it is unlisted
-  abbrev pub group_place : (x y : ℕ) → ℕ
-  group_place x y = seek 0 l.groups (group_is S l.first x y)
+  abbrev pub group_place : (C : List ℕ) → ℕ
+  group_place C = seek 0 l.groups (group_is S l.first C)
 
   -- group g as it is found
   abbrev pub group_found_at : (g : ℕ) → GroupPlace
   group_found_at g = record { index = g; offset = group_start S l.first g }
 
-  -- what a search for a group's code finds
-  unfoldable pub group_found : (x y : ℕ) → Found GroupPlace
-  group_found x y = cond (group_listed x y) (found (group_found_at (group_place x y))) unlisted
+  -- what a search for a group's code finds; each caller gives "unlisted" its own number: 15 for a record's group
+  unfoldable pub group_found : (C : List ℕ) → Option GroupPlace
+  group_found C = cond (group_listed C) (Some (group_found_at (group_place C))) None
 
   -- one of the firms has the code C
   unfoldable pub firm_listed : (C : List ℕ) → Bool
@@ -72,16 +60,6 @@ module _ (S : List ℕ) (l : Layout) where
   abbrev pub firm_place : (C : List ℕ) → ℕ
   firm_place C = seek 0 l.firms (firm_is S l.start C)
 
-  -- what a search for a firm's code finds
-  unfoldable pub firm_found : (C : List ℕ) → Found ℕ
-  firm_found C = cond (firm_listed C) (found (firm_place C)) unlisted
-
--- what the search's answer means; each caller gives "unlisted" its own number: 15 for a record's group
-abbrev pub group_meaning : FoundGroup → Found GroupPlace
-group_meaning (group.At i o) = found (record { index = i; offset = o })
-group_meaning group.Nothing = unlisted
-
--- what the search's answer means: "unlisted" is 14 for a record's firm, 21 for a statement's
-abbrev pub firm_meaning : FoundFirm → Found ℕ
-firm_meaning (firm.At i) = found i
-firm_meaning firm.Nothing = unlisted
+  -- what a search for a firm's code finds; "unlisted" is 14 for a record's firm, 21 for a statement's
+  unfoldable pub firm_found : (C : List ℕ) → Option ℕ
+  firm_found C = cond (firm_listed C) (Some (firm_place C)) None

@@ -5,7 +5,7 @@ ghost use Rattle.std.specs.Prelude.{◌≡◌};
 ghost use Rattle.records.specs.Bodies.{rest_at, body_at};
 ghost use Rattle.records.specs.Fields.{group_fields, firm_fields};
 ghost use Rattle.lookup.specs.InForce.{rules_of};
-ghost use Rattle.lookup.specs.Lookup.{group_has, group_found, group_meaning, firm_found, firm_meaning};
+ghost use Rattle.lookup.specs.Lookup.{group_has, group_found, firm_found};
 
 use records::{FIRM_SIZE, Firm, Group, body_at, firm_fields, group_fields, has_code, rest_at};
 use rules::{Rules, version96};
@@ -23,18 +23,11 @@ pub struct Layout {
     pub firms: u8,
 }
 
-// The group with a code: its place among the groups, and its record's offset.
+// Where a group stands: its place among the groups, and its record's offset.
 #[derive(Clone, Copy)]
-pub enum FoundGroup {
-    At { index: usize, offset: usize },
-    Nothing,
-}
-
-// The firm with a code: its place among the firms.
-#[derive(Clone, Copy)]
-pub enum FoundFirm {
-    At(usize),
-    Nothing,
+pub struct GroupPlace {
+    pub index: usize,
+    pub offset: usize,
 }
 
 // The fields of the group whose record stands at a place.
@@ -44,31 +37,27 @@ pub fn group_at(schedule: &[u8], at: usize) -> Group
     group_fields(body_at(schedule, at))
 }
 
-fn group_has(schedule: &[u8], at: usize, x: u8, y: u8) -> bool
-    ensures { result ≡ group_has schedule.now at x y }
+fn group_has(schedule: &[u8], at: usize, code: [u8; 2]) -> bool
+    ensures { result ≡ group_has schedule.now at code }
 {
-    let g = group_fields(rest_at(schedule, at));
-    (g.first == x) & (g.second == y)
+    group_fields(rest_at(schedule, at)).code == code
 }
 
-// The group with a code of two letters.
-pub fn find_group(schedule: &[u8], l: Layout, x: u8, y: u8) -> FoundGroup
-    ensures { group_meaning result ≡ group_found schedule.now l x y }
+// The group with a code.
+pub fn find_group(schedule: &[u8], l: Layout, code: [u8; 2]) -> Option<GroupPlace>
+    ensures { result ≡ group_found schedule.now l code }
 {
-    let n = l.groups as usize;
-    let mut i: usize = 0;
     let mut at = l.first as usize;
-    while i < n {
-        if group_has(schedule, at, x, y) {
-            return FoundGroup::At {
+    for i in 0..l.groups as usize {
+        if group_has(schedule, at, code) {
+            return Some(GroupPlace {
                 index: i,
                 offset: at,
-            };
+            });
         }
         at += u16_at(schedule, at) as usize;
-        i += 1;
     }
-    FoundGroup::Nothing
+    None
 }
 
 // The fields of the firm whose record stands at a place, whatever its length says.
@@ -78,20 +67,17 @@ pub fn firm_at(schedule: &[u8], at: usize) -> Firm
     firm_fields(rest_at(schedule, at))
 }
 
-// The firm with a code, a slice of any length.
-pub fn find_firm(schedule: &[u8], l: Layout, code: &[u8]) -> FoundFirm
-    ensures { firm_meaning result ≡ firm_found schedule.now l code.now }
+// The place among the firms of the one with a code, a slice of any length.
+pub fn find_firm(schedule: &[u8], l: Layout, code: &[u8]) -> Option<usize>
+    ensures { result ≡ firm_found schedule.now l code.now }
 {
-    let n = l.firms as usize;
     let start = l.start as usize;
-    let mut i: usize = 0;
-    while i < n {
+    for i in 0..l.firms as usize {
         if has_code(firm_at(schedule, start + FIRM_SIZE * i), code) {
-            return FoundFirm::At(i);
+            return Some(i);
         }
-        i += 1;
     }
-    FoundFirm::Nothing
+    None
 }
 
 // The Program's constants that hold for a schedule's month. They are version 9.6's whatever the schedule says; it is an argument since the

@@ -8,7 +8,7 @@ ghost use Rattle.report.specs.Answer.{output_size};
 
 use input::INPUT;
 use reading::read_full;
-use report::{OUTPUT, Reported, report};
+use report::{OUTPUT, report};
 use std::io;
 
 // One byte more than the program takes, so that a longer input is seen to be too long.
@@ -29,9 +29,10 @@ fn main(rt: HostRuntime) -> io::Result<()> {
     let mut input = input_buffer();
     let n = read_full(&mut rt.reader(), &mut input)?;
     let mut out = output_buffer();
-    match report(&input[..n], &mut out) {
-        Reported::Whole(bytes) => rt.write_all(&out[..bytes]),
+    let bytes = match report(&input[..n], &mut out) {
+        Ok(bytes) => bytes,
         // Never, for no report is longer than this output (report_laws).
-        Reported::Cut(bytes) => rt.write_all(&out[..bytes]),
-    }
+        Err(cut) => cut.bytes,
+    };
+    rt.write_all(&out[..bytes])
 }

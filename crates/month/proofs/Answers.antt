@@ -3,16 +3,18 @@ use Prim.Native.Nat.{ℕ}
 use mathlib.Core.Bool.{Bool, true, false, cond, not}
 use lib.Dec.{eqb}
 use mathlib.Core.List.{List}
-use mathlib.Core.Path.{◌≡◌, ap}
+use mathlib.Core.Path.{◌≡◌, sym, ap, subst, ◌∙◌}
 use lib.ListN.{length}
+use Rattle.std.specs.Prelude.{Ok}
 use Rattle.wire.specs.Choose.{choose}
 use Rattle.wire.proofs.Choose.{here, next, done, chosen}
-use Rattle.schedule.specs.Outcome.{Outcome, refused, good, follow}
+use Rattle.refusals.specs.Outcome.{Outcome, refused, good, follow}
 use Rattle.lookup.specs.Lookup.{firm_listed}
 use Rattle.lookup.specs.declared.Layout.{Layout}
 use Rattle.schedule.proofs.Good.{refused-good}
-use Rattle.book.specs.Book.{cells, check_book}
-use Rattle.month.specs.Month.{any_excess, month_causes, month_answer}
+use Rattle.book.specs.Book.{cells, totals_in, check_book}
+use Rattle.month.specs.Month.{any_excess, firm_totals, month_causes, month_answer, HeldMonth, MonthIs}
+use Rattle.month.specs.declared.Month.{Month}
 use Rattle.month.specs.Parts.{ListedAt}
 
 module _ (S B C : List ℕ) where
@@ -41,6 +43,16 @@ module _ (S B C : List ℕ) where
     is_judged h =
         let n : choose (month_causes S B C l) 0 ≡ 0 = chosen (next (ap not at.listed) (next (rw at.place at h) done)) in
         rw (at.checked, n)
+
+-- the month of a listed firm that 22 does not refuse is what the call promises
+pub held-month : {S B C : List ℕ} {l : Layout} {f : ℕ} {m : Month} → ListedAt S l B C f → any_excess l (cells l.groups B f) ≡ false
+    → HeldMonth S l (totals_in l.groups B f) m → MonthIs S B C (Ok m)
+held-month {S} {B} {C} {l} {f} {m} at within h =
+    let here : HeldMonth S l (firm_totals S B C l) m = subst (λ (g : ℕ). HeldMonth S l (totals_in l.groups B g) m) at.place h in
+    record {
+      answer = ap good h.layout ∙ sym (is_judged S B C l f at within);
+      held = subst (λ (k : Layout). HeldMonth S k (firm_totals S B C k) m) (sym h.layout) here;
+    }
 
 -- a month that is not refused is that of a schedule and a book that were checked
 pub judged-book : (S B C : List ℕ) {l : Layout} → month_answer S B C ≡ good l → check_book S (length B) ≡ good l

@@ -1,15 +1,15 @@
 -- A firm's month out of the book (document 01, "The month" and "Numbers of refusal", and document 02, 2.1 and 2.3). S is the schedule, l what it holds, B
 -- the book, C the firm's code.
 -- Assumes nothing.
-use Rattle.std.specs.Prelude.{ℕ, Bool, false, not, ◌&&◌, List, [], ◌∷◌, ◌≡◌, leb, length, replicate}
+use Rattle.std.specs.Prelude.{ℕ, Bool, not, ◌&&◌, List, [], ◌∷◌, Result, Ok, Err, IfOk, ◌≡◌, leb, length}
 use Rattle.wire.specs.Choose.{some}
 use Rattle.wire.specs.Lists.{table}
 use Rattle.calendar.specs.Calendar.{days_in, in_effect}
 use Rattle.rules.specs.Month.{Terms, DailyTotals, exempt}
 use Rattle.rules.specs.Marks.{most_groups, places, day_of, group_of, Judged, judged, mark}
-use Rattle.schedule.specs.Outcome.{Outcome, good, follow, given, asked}
+use Rattle.refusals.specs.Outcome.{Outcome, refused, good, follow, asked, number_of}
+use Rattle.refusals.specs.declared.Refusal.{Refusal}
 use Rattle.lookup.specs.Lookup.{group_start, group_at, firm_listed, firm_place}
-use Rattle.schedule.specs.Check.{check_meaning}
 use Rattle.lookup.specs.InForce.{rules_of}
 use Rattle.lookup.specs.declared.Layout.{Layout}
 use Rattle.cell.specs.Cell.{is_within, FirmCells, cell_totals}
@@ -71,13 +71,23 @@ groupings_of S l = table most_groups (λ g. (group_at S l g).grouping)
 abbrev pub exempts_of : (S : List ℕ) → Layout → DailyTotals → List Bool
 exempts_of S l c = table most_groups (exempt (rules_of S) (terms S l) c)
 
--- what the call promises: a refusal, with zeros in the arrays, or the firm's month, place by place and group by group
-pub record MonthIs (S B C : List ℕ) (r : Month) : Type 0 where
-  pub answer : check_meaning r.answer ≡ month_answer S B C
-  pub starts : r.starts ≡ given (month_answer S B C) (replicate most_groups 0) (starts_of S)
-  pub groupings : r.groupings ≡ given (month_answer S B C) (replicate most_groups 0) (groupings_of S)
-  pub codes : r.codes ≡ given (month_answer S B C) (replicate places 0) (λ l. table places (λ i. ((firm_month S B C l).verdict i).code))
+-- a firm's month as it is held, for the totals c: place by place and group by group
+pub record HeldMonth (S : List ℕ) (l : Layout) (c : DailyTotals) (m : Month) : Type 0 where
+  pub layout : m.layout ≡ l
+  pub starts : m.starts ≡ starts_of S l
+  pub groupings : m.groupings ≡ groupings_of S l
+  pub codes : m.codes ≡ table places (λ i. ((month_of S l c).verdict i).code)
   -- 2.1: what uses a verdict passes the factor on
-  pub factors : r.factors ≡ given (month_answer S B C) (replicate places 0) (λ l. table places (λ i. ((firm_month S B C l).verdict i).factor))
-  pub exempts : r.exempts ≡ given (month_answer S B C) (replicate most_groups false) (λ l. exempts_of S l (firm_totals S B C l))
-  pub marks : r.marks ≡ given (month_answer S B C) (replicate places 0) (λ l. table places (mark (rules_of S) (firm_month S B C l)))
+  pub factors : m.factors ≡ table places (λ i. ((month_of S l c).verdict i).factor)
+  pub exempts : m.exempts ≡ exempts_of S l c
+  pub marks : m.marks ≡ table places (mark (rules_of S) (month_of S l c))
+
+-- what the call's answer means: a refusal, or what the schedule holds
+abbrev pub month_meaning : Result Month Refusal → Outcome Layout
+month_meaning (Ok m) = good m.layout
+month_meaning (Err r) = refused (number_of r.cause) r.offset
+
+-- what the call promises: a refusal, or the firm's month
+pub record MonthIs (S B C : List ℕ) (r : Result Month Refusal) : Type 0 where
+  pub answer : month_meaning r ≡ month_answer S B C
+  pub held : IfOk r (λ m. HeldMonth S m.layout (firm_totals S B C m.layout) m)

@@ -5,16 +5,15 @@ ghost use Rattle.rules.specs.Month.{exempt};
 ghost use Rattle.rules.specs.Marks.{most_groups, places, verdict_at};
 ghost use Rattle.lookup.specs.InForce.{rules_of};
 ghost use Rattle.book.specs.Book.{cells, totals_in};
-ghost use Rattle.month.specs.Month.{terms, is_excess, any_excess, starts_of, exempts_of};
-ghost use Rattle.month.specs.Parts.{Sound, Within, with_day, sums_to, verdict_in, VerdictsAre};
+ghost use Rattle.month.specs.Month.{terms, is_excess, any_excess, exempts_of};
+ghost use Rattle.month.specs.Parts.{Within, with_day, sums_to, verdict_in, VerdictsAre};
 
-use crate::groups::group_of;
+use crate::firm::FirmBook;
 use book::cell_in;
 use calendar::{days_in, in_effect};
 use lookup::Layout;
 use rules::{
-    DaysVerdict, GROUPS, LIMIT, NOT_JUDGED, PLACES, Totals, Verdict, days_verdict, fits,
-    is_violation,
+    GROUPS, LIMIT, NOT_JUDGED, NoVerdict, PLACES, Totals, Verdict, days_verdict, fits, is_violation,
 };
 
 // Whether place i is of a day of the month, and has a number above the limit.
@@ -31,12 +30,10 @@ fn excess_at(l: Layout, book: &[u64], firm: u8, i: usize) -> bool
 pub(crate) fn has_excess(l: Layout, book: &[u64], firm: u8) -> bool
     ensures { result ≡ any_excess l (cells l.groups book.now firm) }
 {
-    let mut i: usize = 0;
-    while i < PLACES {
+    for i in 0..PLACES {
         if excess_at(l, book, firm, i) {
             return true;
         }
-        i += 1;
     }
     false
 }
@@ -72,115 +69,14 @@ fn with_cell(sums: MonthSums, counted: bool, t: Totals) -> MonthSums
     requires t_value { counted ≡ true → fits 1 t ≡ true }
     ensures { result ≡ cond counted (with_day sums t) sums }
 {
-    if counted {
-        return sums.with_day(t);
-    }
-    sums
-}
-
-// The sums of a group of the firm over the month. The schedule is an argument since the contract names the month's terms by it.
-fn month_sums(schedule: &[u8], l: Layout, book: &[u64], firm: u8, group: u8) -> MonthSums
-    requires group_lt_most_groups { group < most_groups }
-    requires sound { Sound schedule.now l (cells l.groups book.now firm) }
-    ensures { result ≡ sums_to (terms schedule.now l) (totals_in l.groups book.now firm) group 31 }
-{
-    let mut sums = MonthSums {
-        raw: 0,
-        score: 0,
-        lots: 0,
-        days: 0,
-    };
-    let mut d: u8 = 0;
-    while d < 31 {
-        let t = cell_in(book, l.groups, firm, group, d + 1).totals;
-        let counted = in_effect(l.month, l.closed, d + 1) & (0 < t.raw);
-        sums = with_cell(sums, counted, t);
-        d += 1;
-    }
-    sums
+    if counted { sums.with_day(t) } else { sums }
 }
 
 // The verdict of an answer. Where 22 does not refuse, each answer has one.
-fn verdict_of(answer: DaysVerdict) -> Verdict
+fn verdict_of(answer: Result<Verdict, NoVerdict>) -> Verdict
     ensures { result ≡ verdict_in (days_meaning answer) }
 {
-    match answer {
-        DaysVerdict::Decided(v) => v,
-        DaysVerdict::Refused => NOT_JUDGED,
-        DaysVerdict::TooManyDays => NOT_JUDGED,
-    }
-}
-
-// Whether a group of the firm is exempt this month.
-fn is_exempt(
-    schedule: &[u8],
-    l: Layout,
-    book: &[u64],
-    firm: u8,
-    starts: &[usize; GROUPS],
-    g: usize,
-) -> bool
-    requires g_lt_most_groups { g < most_groups }
-    requires starts_value { starts.now ≡ starts_of schedule.now l }
-    requires sound { Sound schedule.now l (cells l.groups book.now firm) }
-    ensures { result ≡ exempt (rules_of schedule.now) (terms schedule.now l) (totals_in l.groups book.now firm) g }
-{
-    if (l.groups as usize) <= g {
-        return true;
-    }
-    let benchmark = group_of(schedule, l, starts, g).benchmark as u64;
-    let s = month_sums(schedule, l, book, firm, g as u8);
-    let t = Totals {
-        raw: s.raw,
-        score: s.score,
-        lots: s.lots,
-    };
-    !is_violation(verdict_of(days_verdict(s.days, t, benchmark)).code)
-}
-
-// Which groups of the firm are exempt.
-pub(crate) fn fill_exempts(
-    schedule: &[u8],
-    l: Layout,
-    book: &[u64],
-    firm: u8,
-    starts: &[usize; GROUPS],
-) -> [bool; GROUPS]
-    requires starts_value { starts.now ≡ starts_of schedule.now l }
-    requires sound { Sound schedule.now l (cells l.groups book.now firm) }
-    ensures { result ≡ exempts_of schedule.now l (totals_in l.groups book.now firm) }
-{
-    let mut exempts = [false; GROUPS];
-    let mut g: usize = 0;
-    while g < GROUPS {
-        exempts[g] = is_exempt(schedule, l, book, firm, starts, g);
-        g += 1;
-    }
-    exempts
-}
-
-// The verdict on place i: past the last group and on a day that is not in effect nothing is judged.
-fn place_verdict(
-    schedule: &[u8],
-    l: Layout,
-    book: &[u64],
-    firm: u8,
-    starts: &[usize; GROUPS],
-    i: usize,
-) -> Verdict
-    requires i_lt_places { i < places }
-    requires starts_value { starts.now ≡ starts_of schedule.now l }
-    requires sound { Sound schedule.now l (cells l.groups book.now firm) }
-    ensures { result ≡ verdict_at (rules_of schedule.now) (terms schedule.now l) (totals_in l.groups book.now firm) i }
-{
-    let g = i % GROUPS;
-    let day = (i / GROUPS + 1) as u8;
-    if !((g < (l.groups as usize)) & in_effect(l.month, l.closed, day)) {
-        return NOT_JUDGED;
-    }
-    let benchmark = group_of(schedule, l, starts, g).benchmark as u64;
-    let t = cell_in(book, l.groups, firm, g as u8, day).totals;
-    verdict_of(days_verdict(1, t, benchmark))
+    answer.unwrap_or(NOT_JUDGED)
 }
 
 // The verdicts on the places of a month, held while marks are given.
@@ -190,26 +86,83 @@ pub(crate) struct Verdicts {
     pub factors: [u8; PLACES],
 }
 
-// The verdicts on the firm's places, day by day.
-pub(crate) fn fill_verdicts(
-    schedule: &[u8],
-    l: Layout,
-    book: &[u64],
-    firm: u8,
-    starts: &[usize; GROUPS],
-) -> Verdicts
-    requires starts_value { starts.now ≡ starts_of schedule.now l }
-    requires sound { Sound schedule.now l (cells l.groups book.now firm) }
-    ensures { VerdictsAre result (verdict_at (rules_of schedule.now) (terms schedule.now l) (totals_in l.groups book.now firm)) }
-{
-    let mut codes = [0u8; PLACES];
-    let mut factors = [0u8; PLACES];
-    let mut i: usize = 0;
-    while i < PLACES {
-        let v = place_verdict(schedule, l, book, firm, starts, i);
-        codes[i] = v.code;
-        factors[i] = v.factor;
-        i += 1;
+impl FirmBook<'_> {
+    // The sums of a group of the firm over the month.
+    fn month_sums(&self, group: u8) -> MonthSums
+        requires { group < most_groups }
+        ensures { result ≡ sums_to (terms self.now.schedule.now self.now.layout) (totals_in self.now.layout.groups self.now.book.now self.now.firm) group 31 }
+    {
+        let l = self.layout;
+        let mut sums = MonthSums {
+            raw: 0,
+            score: 0,
+            lots: 0,
+            days: 0,
+        };
+        for d in 0..31 {
+            let t = cell_in(self.book, l.groups, self.firm, group, d + 1).totals;
+            let counted = in_effect(l.month, l.closed, d + 1) & (0 < t.raw);
+            sums = with_cell(sums, counted, t);
+        }
+        sums
     }
-    Verdicts { codes, factors }
+
+    // Whether a group of the firm is exempt this month.
+    fn is_exempt(&self, g: usize) -> bool
+        requires { g < most_groups }
+        ensures { result ≡ exempt (rules_of self.now.schedule.now) (terms self.now.schedule.now self.now.layout) (totals_in self.now.layout.groups self.now.book.now self.now.firm) g }
+    {
+        if self.layout.groups as usize <= g {
+            return true;
+        }
+        let benchmark = self.group(g).benchmark as u64;
+        let s = self.month_sums(g as u8);
+        let t = Totals {
+            raw: s.raw,
+            score: s.score,
+            lots: s.lots,
+        };
+        !is_violation(verdict_of(days_verdict(s.days, t, benchmark)).code)
+    }
+
+    // Which groups of the firm are exempt.
+    pub(crate) fn exempts(&self) -> [bool; GROUPS]
+        ensures { result ≡ exempts_of self.now.schedule.now self.now.layout (totals_in self.now.layout.groups self.now.book.now self.now.firm) }
+    {
+        let mut exempts = [false; GROUPS];
+        for (g, exempt) in exempts.iter_mut().enumerate() {
+            *exempt = self.is_exempt(g);
+        }
+        exempts
+    }
+
+    // The verdict on place i: past the last group and on a day that is not in effect nothing is judged.
+    fn place_verdict(&self, i: usize) -> Verdict
+        requires { i < places }
+        ensures { result ≡ verdict_at (rules_of self.now.schedule.now) (terms self.now.schedule.now self.now.layout) (totals_in self.now.layout.groups self.now.book.now self.now.firm) i }
+    {
+        let l = self.layout;
+        let g = i % GROUPS;
+        let day = (i / GROUPS + 1) as u8;
+        if !((g < l.groups as usize) & in_effect(l.month, l.closed, day)) {
+            return NOT_JUDGED;
+        }
+        let benchmark = self.group(g).benchmark as u64;
+        let t = cell_in(self.book, l.groups, self.firm, g as u8, day).totals;
+        verdict_of(days_verdict(1, t, benchmark))
+    }
+
+    // The verdicts on the firm's places, day by day.
+    pub(crate) fn verdicts(&self) -> Verdicts
+        ensures { VerdictsAre result (verdict_at (rules_of self.now.schedule.now) (terms self.now.schedule.now self.now.layout) (totals_in self.now.layout.groups self.now.book.now self.now.firm)) }
+    {
+        let mut codes = [0; PLACES];
+        let mut factors = [0; PLACES];
+        for i in 0..PLACES {
+            let v = self.place_verdict(i);
+            codes[i] = v.code;
+            factors[i] = v.factor;
+        }
+        Verdicts { codes, factors }
+    }
 }

@@ -4,6 +4,7 @@ ghost use Rattle.rules.specs.Marks.{most_groups};
 ghost use Rattle.lookup.specs.Lookup.{group_at};
 ghost use Rattle.month.specs.Month.{starts_of, groupings_of};
 
+use crate::firm::FirmBook;
 use lookup::{Layout, group_at};
 use records::Group;
 use rules::GROUPS;
@@ -13,40 +14,32 @@ use wire::u16_at;
 pub(crate) fn group_starts(schedule: &[u8], l: Layout) -> [usize; GROUPS]
     ensures { result ≡ starts_of schedule.now l }
 {
-    let mut starts = [0usize; GROUPS];
+    let mut starts = [0; GROUPS];
     let mut at = l.first as usize;
-    let mut g: usize = 0;
-    while g < GROUPS {
-        starts[g] = at;
+    for start in starts.iter_mut() {
+        *start = at;
         at += u16_at(schedule, at) as usize;
-        g += 1;
     }
     starts
 }
 
-// The fields of group g. The layout is an argument since the contract names the groups by it.
-pub(crate) fn group_of(schedule: &[u8], l: Layout, starts: &[usize; GROUPS], g: usize) -> Group
-    requires g_lt_most_groups { g < most_groups }
-    requires starts_value { starts.now ≡ starts_of schedule.now l }
-    ensures { result ≡ group_at schedule.now l g }
-{
-    group_at(schedule, starts[g])
-}
-
-// The groups' exchange groupings.
-pub(crate) fn exchange_groupings(
-    schedule: &[u8],
-    l: Layout,
-    starts: &[usize; GROUPS],
-) -> [u8; GROUPS]
-    requires { starts.now ≡ starts_of schedule.now l }
-    ensures { result ≡ groupings_of schedule.now l }
-{
-    let mut groupings = [0u8; GROUPS];
-    let mut g: usize = 0;
-    while g < GROUPS {
-        groupings[g] = group_of(schedule, l, starts, g).grouping;
-        g += 1;
+impl FirmBook<'_> {
+    // The fields of group g.
+    pub(crate) fn group(&self, g: usize) -> Group
+        requires { g < most_groups }
+        ensures { result ≡ group_at self.now.schedule.now self.now.layout g }
+    {
+        group_at(self.schedule, self.starts[g])
     }
-    groupings
+
+    // The groups' exchange groupings.
+    pub(crate) fn groupings(&self) -> [u8; GROUPS]
+        ensures { result ≡ groupings_of self.now.schedule.now self.now.layout }
+    {
+        let mut groupings = [0; GROUPS];
+        for (g, grouping) in groupings.iter_mut().enumerate() {
+            *grouping = self.group(g).grouping;
+        }
+        groupings
+    }
 }

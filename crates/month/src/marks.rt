@@ -39,9 +39,10 @@ impl Left {
         ensures { result ≡ cond (eqb grouping 1) self.first self.second }
     {
         if grouping == 1 {
-            return self.first;
+            self.first
+        } else {
+            self.second
         }
-        self.second
     }
 
     // The counts with n more in a grouping.
@@ -49,19 +50,17 @@ impl Left {
         requires { (self.first < 1000) × (self.second < 1000) × (n ≤ 1) }
         ensures { (result.first ≡ self.first + cond (eqb grouping 1) n 0) × (result.second ≡ self.second + cond (eqb grouping 2) n 0) }
     {
-        if grouping == 1 {
-            return Left {
+        match grouping {
+            1 => Left {
                 first: self.first + n,
-                second: self.second,
-            };
-        }
-        if grouping == 2 {
-            return Left {
-                first: self.first,
+                ..self
+            },
+            2 => Left {
                 second: self.second + n,
-            };
+                ..self
+            },
+            _ => self,
         }
-        self
     }
 }
 
@@ -79,8 +78,7 @@ pub(crate) fn give_marks(
         first: 0,
         second: 0,
     };
-    let mut i: usize = 0;
-    while i < PLACES {
+    for i in 0..PLACES {
         let g = i % GROUPS;
         let code = marks[i];
         let exempt = exempts[g];
@@ -88,7 +86,6 @@ pub(crate) fn give_marks(
         let before = left.count_in(grouping);
         marks[i] = mark_of(p, code, exempt, before);
         left = left.with_count(grouping, bit((code == 4) & !exempt) as u16);
-        i += 1;
     }
     marks
 }

@@ -2,6 +2,8 @@
 -- B is a record's body, which starts after length and kind: offsets in it are document 01's less 4.
 -- Assumes nothing.
 use Rattle.std.specs.Prelude.{ℕ, ◌/◌, ◌^◌, Bool, ◌||◌, List, [], ◌∷◌, eqb, length, get_or}
+use Rattle.std.specs.List.{list_all}
+use Rattle.std.specs.Str.{bytes_eq}
 use Rattle.wire.specs.Bytes.{u16_at, u32_at}
 use Rattle.wire.specs.Choose.{all, within}
 use Rattle.calendar.specs.Calendar.{is_month, days_in}
@@ -22,8 +24,7 @@ head_ok h = all (is_month h.month ∷ eqb (h.closed / 2 ^ days_in h.month) 0 ∷
 unfoldable pub group_fields : (B : List ℕ) → Group
 group_fields B =
     record {
-      first = get_or B 0 0;
-      second = get_or B 1 0;
+      code = get_or B 0 0 ∷ get_or B 1 0 ∷ [];
       grouping = get_or B 2 0;
       k = get_or B 3 0;
       benchmark = u32_at B 4;
@@ -35,13 +36,16 @@ group_fields B =
 unfoldable pub is_letter : ℕ → Bool
 is_letter x = within 65 90 x || within 48 57 x
 
+-- Records: every letter of a code is one
+abbrev pub are_letters : (C : List ℕ) → Bool
+are_letters C = list_all is_letter C
+
 -- Records, kind 2: code (two of A–Z, 0–9); grouping (1 CME/CBOT, 2 NYMEX/COMEX); k (1 to 64); B, a benchmark; front mask (1 to 4,095); extra
 -- mask (0 to 4,095)
 unfoldable pub group_in_range : Group → Bool
 group_in_range g =
     all
-    (is_letter g.first
-    ∷ is_letter g.second
+    (are_letters g.code
     ∷ within 1 2 g.grouping
     ∷ within 1 64 g.k
     ∷ is_benchmark g.benchmark
@@ -51,11 +55,11 @@ group_in_range g =
 
 -- Records, kind 3: code at 4
 unfoldable pub firm_fields : (B : List ℕ) → Firm
-firm_fields B = record { first = get_or B 0 0; second = get_or B 1 0; third = get_or B 2 0 }
+firm_fields B = record { code = get_or B 0 0 ∷ get_or B 1 0 ∷ get_or B 2 0 ∷ [] }
 
 -- Records, kind 3: code (three of A–Z, 0–9)
 unfoldable pub firm_ok : Firm → Bool
-firm_ok f = all (is_letter f.first ∷ is_letter f.second ∷ is_letter f.third ∷ [])
+firm_ok f = are_letters f.code
 
 -- C is a code of three letters, those of A; a code of another length is nobody's
 abbrev pub same_code : (A C : List ℕ) → Bool
@@ -67,10 +71,6 @@ same_code A C =
     ∷ eqb (get_or A 2 0) (get_or C 2 0)
     ∷ [])
 
--- the three letters of a firm's code
-abbrev pub letters : Firm → List ℕ
-letters f = f.first ∷ f.second ∷ f.third ∷ []
-
--- the firm has the code C
+-- the firm's code is C, which so has three letters too
 unfoldable pub has_code : Firm → (C : List ℕ) → Bool
-has_code f C = same_code (letters f) C
+has_code f C = bytes_eq f.code C

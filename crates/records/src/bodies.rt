@@ -2,7 +2,7 @@
 ghost use Rattle.std.specs.Prelude.{◌≡◌};
 ghost use Rattle.records.specs.Bodies.{rest_at, body_at};
 
-use wire::{least, u16_at};
+use wire::{tail, u16_at};
 
 // The kinds of a head, a group and a firm.
 pub const HEAD_KIND: u16 = 1;
@@ -24,9 +24,7 @@ pub const FIRM_SIZE: usize = 7;
 pub fn rest_at(s: &[u8], at: usize) -> &[u8]
     ensures { result.now ≡ rest_at s.now at }
 {
-    let from = least(at, s.len());
-    let start = from + least(4, s.len() - from);
-    &s[start..]
+    tail(tail(s, at), 4)
 }
 
 // The body of the record at a place, cut short at the end of the bytes.
@@ -34,9 +32,6 @@ pub fn body_at(s: &[u8], at: usize) -> &[u8]
     ensures { result.now ≡ body_at s.now at }
 {
     let rest = rest_at(s, at);
-    let len = u16_at(s, at) as usize;
-    if len < 4 {
-        return &rest[..0];
-    }
-    &rest[..least(len - 4, rest.len())]
+    let size = (u16_at(s, at) as usize).saturating_sub(4);
+    &rest[..size.min(rest.len())]
 }

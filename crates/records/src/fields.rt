@@ -1,11 +1,11 @@
 // The fields of a record's body, which starts after length and kind, and their ranges.
 ghost use Rattle.std.specs.Prelude.{◌≡◌};
-ghost use Rattle.records.specs.Fields.{is_letter, head_fields, head_ok, firm_fields, firm_ok, has_code};
+ghost use Rattle.records.specs.Fields.{is_letter, are_letters, head_fields, head_ok, firm_fields, firm_ok, has_code};
 ghost use Rattle.records.specs.Fields.{group_fields, group_in_range};
 
 use calendar::{days_in, is_month};
 use rules::is_benchmark;
-use wire::{byte_at, u16_at, u32_at, within};
+use wire::{byte_at, bytes_at, u16_at, u32_at, within};
 
 // A head's fields: the month's number, and the days that are not in effect.
 #[derive(Clone, Copy)]
@@ -18,8 +18,7 @@ pub struct Head {
 // benchmark, and the two masks.
 #[derive(Clone, Copy)]
 pub struct Group {
-    pub first: u8,
-    pub second: u8,
+    pub code: [u8; 2],
     pub grouping: u8,
     pub k: u8,
     pub benchmark: u32,
@@ -30,9 +29,7 @@ pub struct Group {
 // A firm's fields: the three letters of its code.
 #[derive(Clone, Copy)]
 pub struct Firm {
-    pub first: u8,
-    pub second: u8,
-    pub third: u8,
+    pub code: [u8; 3],
 }
 
 // A head's fields as they stand in its body.
@@ -59,13 +56,18 @@ fn is_letter(x: u8) -> bool
     within(65, 90, x as u32) | within(48, 57, x as u32)
 }
 
+fn are_letters(code: &[u8]) -> bool
+    ensures { result ≡ are_letters code.now }
+{
+    code.iter().all(|x| is_letter(*x))
+}
+
 // A group's fields as they stand in its body.
 pub fn group_fields(body: &[u8]) -> Group
     ensures { result ≡ group_fields body.now }
 {
     Group {
-        first: byte_at(body, 0),
-        second: byte_at(body, 1),
+        code: bytes_at(body, 0),
         grouping: byte_at(body, 2),
         k: byte_at(body, 3),
         benchmark: u32_at(body, 4),
@@ -78,8 +80,7 @@ pub fn group_fields(body: &[u8]) -> Group
 pub fn group_in_range(g: Group) -> bool
     ensures { result ≡ group_in_range g }
 {
-    is_letter(g.first)
-        & is_letter(g.second)
+    are_letters(&g.code)
         & within(1, 2, g.grouping as u32)
         & within(1, 64, g.k as u32)
         & is_benchmark(g.benchmark as u64)
@@ -91,26 +92,20 @@ pub fn group_in_range(g: Group) -> bool
 pub fn firm_fields(body: &[u8]) -> Firm
     ensures { result ≡ firm_fields body.now }
 {
-    Firm {
-        first: byte_at(body, 0),
-        second: byte_at(body, 1),
-        third: byte_at(body, 2),
-    }
+    let code = bytes_at(body, 0);
+    Firm { code }
 }
 
-// A firm's code has three letters.
+// The three places of a firm's code have letters.
 pub fn firm_ok(firm: Firm) -> bool
     ensures { result ≡ firm_ok firm }
 {
-    is_letter(firm.first) & is_letter(firm.second) & is_letter(firm.third)
+    are_letters(&firm.code)
 }
 
-// Whether a firm has a code, a slice of any length.
+// Whether a firm's code is this one, a slice of any length.
 pub fn has_code(firm: Firm, code: &[u8]) -> bool
     ensures { result ≡ has_code firm code.now }
 {
-    (code.len() == 3)
-        & (firm.first == byte_at(code, 0))
-        & (firm.second == byte_at(code, 1))
-        & (firm.third == byte_at(code, 2))
+    &firm.code[..] == code
 }

@@ -1,4 +1,4 @@
--- What report answers once its text is written: the place after it says whether all of it had room. What was written stands within the output.
+-- What report answers once its text is written: the output says whether all of it had room. What was written stands within the bytes that were lent.
 use Prim.Native.Nat.{ℕ, ◌≤◌}
 use mathlib.Core.Bool.{Bool, true, false, cond}
 use mathlib.Core.List.{List}
@@ -7,27 +7,32 @@ use native.Mathlib.Nat.{zero-add}
 use native.Mathlib.Omega.{arith}
 use lib.Dec.{eqb}
 use lib.ListN.{length}
-use Rattle.text.specs.declared.Place.{Place}
+use Rattle.std.specs.Prelude.{Result, Ok, Err}
+use Rattle.text.specs.declared.Output.{Output}
 use Rattle.text.specs.Text.{room, Wrote}
 use Rattle.text.proofs.Writing.{written_length}
 use Rattle.report.specs.Report.{report}
-use Rattle.report.specs.Answer.{whole, cut, bytes_of, report_meaning, report_answer, ReportIs}
-use Rattle.report.specs.declared.Reported.{Reported}
-use Rattle.report.specs.declared.Reported.TheVariants.{Whole, Cut}
+use Rattle.report.specs.Answer.{whole, cut, bytes_of, report_meaning, report_answer, report_output, ReportIs}
+use Rattle.report.specs.declared.Cut.{Cut}
 
--- the text was written from the output's front on, up to the place `end`
-module _ {I O : List ℕ} {end : Place} {O' : List ℕ} (w : Wrote O (record { at = 0; whole = true }) (report I) end O') where
+-- the text was written from the front of the output p on, which was lent O and leaves O' there
+module _ (I O : List ℕ) {O' : List ℕ} {p r : Output} (bytes : p.bytes.now ≡ O) (at : p.at ≡ 0) (whole_before : p.whole ≡ true)
+    (w : Wrote p (report I) r) (left : O' ≡ r.bytes.now) where
+  -- what was written stands there
+  output_is : O' ≡ report_output I O
+  output_is = left ∙ (rw (bytes, at) at w.output)
+
   -- all of it had room
-  pub is_whole : end.whole ≡ true → ReportIs I O (Whole end.at) O'
+  pub is_whole : r.whole ≡ true → ReportIs I O (Ok r.at) O'
   is_whole e =
-      let fits : eqb (room O 0 (report I)) (length (report I)) ≡ true = sym w.whole ∙ e in
-      record { answer = rw (fits, w.next, zero-add); output = w.output }
+      let fits : eqb (room O 0 (report I)) (length (report I)) ≡ true = sym (rw (bytes, at, whole_before) at w.whole) ∙ e in
+      record { answer = rw (fits, w.next, bytes, at, zero-add); output = output_is }
 
   -- not all of it had
-  pub is_cut : end.whole ≡ false → ReportIs I O (Cut end.at) O'
+  pub is_cut : r.whole ≡ false → ReportIs I O (Err (record { bytes = r.at })) O'
   is_cut e =
-      let fits : eqb (room O 0 (report I)) (length (report I)) ≡ false = sym w.whole ∙ e in
-      record { answer = rw (fits, w.next, zero-add); output = w.output }
+      let fits : eqb (room O 0 (report I)) (length (report I)) ≡ false = sym (rw (bytes, at, whole_before) at w.whole) ∙ e in
+      record { answer = rw (fits, w.next, bytes, at, zero-add); output = output_is }
 
 -- no answer has more bytes than the output
 pub answer-within : (I O : List ℕ) → bytes_of (report_answer I O) ≤ length O
@@ -41,5 +46,5 @@ answer-within I O = go (eqb n (length (report I)))
     go false = omega arith
 
 -- so that many bytes of the output can be lent
-pub within : {I O : List ℕ} {r a : Reported} {O' : List ℕ} → ReportIs I O r O' → r ≡ a → bytes_of (report_meaning a) ≤ length O'
+pub within : {I O : List ℕ} {r a : Result ℕ Cut} {O' : List ℕ} → ReportIs I O r O' → r ≡ a → bytes_of (report_meaning a) ≤ length O'
 within {I} {O} p e = rw (← e, p.answer, p.output, written_length O 0 (report I)) (answer-within I O)

@@ -1,11 +1,10 @@
 -- What report answers, and what it leaves in the output. I is the input, O the output before it.
 -- Assumes nothing.
-use Rattle.std.specs.Prelude.{ℕ, cond, List, ◌≡◌, eqb, length}
+use Rattle.std.specs.Prelude.{ℕ, cond, List, Result, Ok, Err, ◌≡◌, eqb, length}
 use Rattle.std.proofs.Math.Seq.{paste}
 use Rattle.text.specs.Text.{room}
 use Rattle.report.specs.Report.{report}
-use Rattle.report.specs.declared.Reported.{Reported}
-use Rattle.report.specs.declared.Reported.TheVariants as reported
+use Rattle.report.specs.declared.Cut.{Cut}
 
 -- the bytes of the program's output
 abbrev pub output_size : ℕ
@@ -22,9 +21,9 @@ bytes_of (whole bytes) = bytes
 bytes_of (cut bytes) = bytes
 
 -- what each answer of report means
-abbrev pub report_meaning : Reported → Answer
-report_meaning (reported.Whole bytes) = whole bytes
-report_meaning (reported.Cut bytes) = cut bytes
+abbrev pub report_meaning : Result ℕ Cut → Answer
+report_meaning (Ok bytes) = whole bytes
+report_meaning (Err c) = cut c.bytes
 
 module _ (I O : List ℕ) where
   -- the text is whole where all of it has room
@@ -36,6 +35,6 @@ module _ (I O : List ℕ) where
   report_output = paste O 0 (report I) (room O 0 (report I))
 
 -- what report promises, of its answer r and the output O' that it leaves
-pub record ReportIs (I O : List ℕ) (r : Reported) (O' : List ℕ) : Type 0 where
+pub record ReportIs (I O : List ℕ) (r : Result ℕ Cut) (O' : List ℕ) : Type 0 where
   pub answer : report_meaning r ≡ report_answer I O
   pub output : O' ≡ report_output I O

@@ -5,12 +5,13 @@ use Rattle.std.specs.Prelude.{ℕ, ◌-◌, ◌*◌, ◌/◌, cond, List, [], �
 use Rattle.wire.specs.Lists.{joined}
 use Rattle.lookup.specs.Lookup.{firm_start}
 use Rattle.records.specs.Bodies.{rest_at}
-use Rattle.records.specs.Fields.{firm_fields, letters}
-use Rattle.schedule.specs.Outcome.{Outcome, refused, good}
+use Rattle.records.specs.Fields.{firm_fields}
+use Rattle.refusals.specs.Outcome.{Outcome, refused, good}
 use Rattle.lookup.specs.declared.Layout.{Layout}
 use Rattle.accepted.specs.Accepted.{posted}
 use Rattle.book.specs.Book.{per_firm_group, check_book, open_book}
-use Rattle.book.specs.Post.{Effect, post_answer, post_book}
+use Rattle.book.specs.Post.{post_answer, post_book}
+use Rattle.book.specs.declared.posting.Effect.{Effect}
 use Rattle.statement.specs.Layout.{line_size, totals_size, both_totals, largest}
 use Rattle.statement.specs.Statement.{statement_answer, statement_output}
 use Rattle.text.specs.Lines.{too_long, heading, refused_line, refused_at, violation_line, totals_line}
@@ -54,7 +55,7 @@ module _ (C : List ℕ) where
 module _ (S : List ℕ) (l : Layout) where
   -- the code of firm f, from 0
   abbrev pub code_of : (f : ℕ) → List ℕ
-  code_of f = letters (firm_fields (rest_at S (firm_start l.start f)))
+  code_of f = (firm_fields (rest_at S (firm_start l.start f))).code
 
   -- then per firm its violations and totals
   unfoldable pub statement_of : (B : List ℕ) → (f : ℕ) → List ℕ

@@ -15,8 +15,7 @@ use firms::put_firms;
 use input::{INPUT, schedule_end};
 use lookup::Layout;
 use posts::put_posts;
-use schedule::Checked;
-use text::{Line, Place, put_line};
+use text::{Line, Output};
 
 // The bytes of an output that has room for every report.
 pub const OUTPUT: usize = 524_288;
@@ -26,11 +25,10 @@ const FIRM_GROUPS: usize = 66;
 
 const BOOK: usize = FIRM_GROUPS * PER_FIRM_GROUP;
 
-// How many bytes of the output were written: the whole text, or as much of it as there was room for.
-#[derive(Clone, Copy)]
-pub enum Reported {
-    Whole(usize),
-    Cut(usize),
+// The text had no room: so many bytes of its front were written.
+#[derive(Clone, Copy, Debug, PartialEq, Eq)]
+pub struct Cut {
+    pub bytes: usize,
 }
 
 fn blank_book() -> [u64; BOOK]
@@ -40,43 +38,40 @@ fn blank_book() -> [u64; BOOK]
 }
 
 // Writes the report of a month whose schedule and book are good: heading, refused records, each firm's violations and totals.
-fn put_month(out: &mut [u8], place: Place, schedule: &[u8], l: Layout, run: &[u8]) -> Place
-    ensures { Wrote out.old place (month_lines schedule.now l (cut run.now)) result out.new }
+fn put_month(out: &mut Output, schedule: &[u8], l: Layout, run: &[u8])
+    ensures { Wrote out.old (month_lines schedule.now l (cut run.now)) out.new }
 {
     let mut book = blank_book();
     // Its answer says nothing new: `check_book` took this schedule and a book of this size.
-    open(schedule, &mut book);
-    let after_heading = put_line(out, place, Line::Heading(l.month));
-    let after_posts = put_posts(out, after_heading, schedule, &mut book, run);
-    put_firms(out, after_posts, schedule, l, &book)
+    let _ = open(schedule, &mut book);
+    out.put_line(Line::Heading(l.month));
+    put_posts(out, schedule, &mut book, run);
+    put_firms(out, schedule, l, &book);
 }
 
 // Writes what an input comes to.
-fn put_report(out: &mut [u8], place: Place, input: &[u8]) -> Place
-    ensures { Wrote out.old place (report input.now) result out.new }
+fn put_report(out: &mut Output, input: &[u8])
+    ensures { Wrote out.old (report input.now) out.new }
 {
     if INPUT < input.len() {
-        return put_line(out, place, Line::TooLong);
+        return out.put_line(Line::TooLong);
     }
-    let end = schedule_end(input);
-    match check_book(&input[..end], BOOK) {
-        Checked::Refused { number, offset } => put_line(
-            out,
-            place,
-            Line::RefusedAt { number, offset },
-        ),
-        Checked::Good(l) => put_month(out, place, &input[..end], l, &input[end..]),
+    let (schedule, run) = input.split_at(schedule_end(input));
+    match check_book(schedule, BOOK) {
+        Err(refusal) => out.put_line(Line::RefusedAt(refusal)),
+        Ok(l) => put_month(out, schedule, l, run),
     }
 }
 
-// Writes what an input comes to over the front of the output, as much of it as there is room for.
-pub fn report(input: &[u8], out: &mut [u8]) -> Reported
+// Writes what an input comes to over the front of the output, as much of it as there is room for, and answers how many bytes that are.
+pub fn report(input: &[u8], out: &mut [u8]) -> Result<usize, Cut>
     ensures { ReportIs input.now out.old result out.new }
 {
-    let front = Place { at: 0, whole: true };
-    let end = put_report(out, front, input);
-    if end.whole {
-        return Reported::Whole(end.at);
+    let mut output = Output::new(out);
+    put_report(&mut output, input);
+    if output.whole {
+        Ok(output.at)
+    } else {
+        Err(Cut { bytes: output.at })
     }
-    Reported::Cut(end.at)
 }

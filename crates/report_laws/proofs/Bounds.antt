@@ -21,7 +21,8 @@ use Rattle.wire.proofs.Sums.{count_blocks}
 use Rattle.rules.specs.Verdict.{version96, not_judged, verdict, is_violation}
 use Rattle.rules.specs.Month.{DailyTotals}
 use Rattle.rules.specs.Marks.{places, day_of, group_of}
-use Rattle.schedule.specs.Outcome.{Outcome, refused, good, follow, given}
+use Rattle.records.specs.Fields.{firm_fields}
+use Rattle.refusals.specs.Outcome.{Outcome, refused, good, follow, given}
 use Rattle.schedule.specs.Check.{check_of}
 use Rattle.lookup.specs.Lookup.{group_at}
 use Rattle.lookup.specs.declared.Layout.{Layout}
@@ -30,7 +31,8 @@ use Rattle.accepted.specs.Accepted.{posted}
 use Rattle.book.specs.Book.{cell_at, check_book, open_book}
 use Rattle.filing.specs.Causes.{record_causes, is_counted_record}
 use Rattle.cell.specs.Entry.{cell_causes}
-use Rattle.book.specs.Post.{outside, counted, index_of, taking, answer_under, post_answer, post_book}
+use Rattle.book.specs.Post.{index_of, taking, answer_under, post_answer, post_book}
+use Rattle.book.specs.declared.posting.Effect.TheVariants as effect
 use Rattle.cell.specs.declared.Cell.{Cell}
 use Rattle.book.proofs.Checked.{by_room, sized}
 use Rattle.statement.specs.Layout.{line_size, totals_size, both_totals, largest}
@@ -110,7 +112,7 @@ taking_most S l c R = go (eqb first 0) (is_counted_record S l R) (eqb second 0)
     most : (cs : List (Bool × ℕ)) → small (λ n. n) 32 cs ≡ true → length (post_line (refused (choose cs 0) 0)) ≤ 11
     most cs e = refused_two (choose cs 0) (omega (arith, choose_most (λ n. n) 32 cs e zero-le))
 
-    go : (x k y : Bool) → length (post_line (cond x (cond (not k) (good outside) (cond y (good counted) (refused second 0))) (refused first 0))) ≤ 11
+    go : (x k y : Bool) → length (post_line (cond x (cond (not k) (good effect.Outside) (cond y (good effect.Counted) (refused second 0))) (refused first 0))) ≤ 11
     go true true true = zero-le
     go true true false = most (cell_causes c R) refl
     go true false y = zero-le
@@ -135,7 +137,7 @@ module _ (S : List ℕ) {l : Layout} (e : check_of S ≡ good l) where
 
   -- a firm has its statement's lines, or that of a refusal
   firm-most : (B : List ℕ) (f : ℕ) → length (statement_of S l B f) ≤ firm_most l
-  unfolding statement_of
+  unfolding statement_of firm_fields
   firm-most B f = go (month_answer S B C) refl
     where
       C : List ℕ

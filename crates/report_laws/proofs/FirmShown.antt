@@ -16,8 +16,9 @@ use Rattle.rules.specs.Verdict.{is_violation}
 use Rattle.rules.specs.Marks.{places, Judged, violations}
 use Rattle.rules.specs.declared.Rules.{Rules}
 use Rattle.records.specs.Bodies.{rest_at}
+use Rattle.std.proofs.lemmas.Slice.Eq.{bytes_eq-Decides}
 use Rattle.records.specs.Fields.{firm_fields, has_code}
-use Rattle.schedule.specs.Outcome.{refused, good}
+use Rattle.refusals.specs.Outcome.{refused, good}
 use Rattle.lookup.specs.Lookup.{firm_start, firm_is, firm_listed}
 use Rattle.lookup.specs.InForce.{rules_of}
 use Rattle.lookup.specs.declared.Layout.{Layout}
@@ -42,10 +43,7 @@ zeros-length n = length-replicate n 0
 -- a firm has its own code
 own_code : (S : List ℕ) (l : Layout) (f : ℕ) → firm_is S l.start (code_of S l f) f ≡ true
 unfolding firm_is has_code
-own_code S l f =
-    let firm = firm_fields (rest_at S (firm_start l.start f)) in
-    let same : (x : ℕ) → eqb x x ≡ true = λ x. eq-eqb x x refl in
-    every _ (refl, (same firm.first, (same firm.second, (same firm.third, tt))))
+own_code S l f = let code = code_of S l f in (bytes_eq-Decides code code).1 refl
 
 -- a month's statement needs no more than largest bytes
 need_most : (j : Judged) → need j ≤ largest

@@ -4,7 +4,7 @@ use Rattle.std.specs.Prelude.{ℕ, ◌+◌, ◌*◌, ◌≤◌, ◌<◌, true, L
 use Rattle.wire.specs.Bytes.{are_bytes}
 use Rattle.wire.specs.Lists.{joined}
 use Rattle.rules.specs.Marks.{Judged, violations, marked, billed, amount}
-use Rattle.schedule.specs.Outcome.{good}
+use Rattle.refusals.specs.Outcome.{good}
 use Rattle.rules.specs.declared.Rules.{Rules}
 use Rattle.lookup.specs.InForce.{rules_of}
 use Rattle.lookup.specs.declared.Layout.{Layout}

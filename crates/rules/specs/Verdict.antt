@@ -2,13 +2,13 @@
 -- `Rules`, `Totals` and `Verdict` are the structs of src/lib.rt. Totals are those of d days: a day's own for d = 1, a month's sums for its d counted
 -- days (document 01, "The month").
 -- Assumes nothing.
-use Rattle.std.specs.Prelude.{ℕ, ◌+◌, ◌*◌, ◌≤◌, Bool, cond, not, ◌&&◌, ◌||◌, [], ◌∷◌, leb, ltb, eqb}
+use Rattle.std.specs.Prelude.{ℕ, ◌+◌, ◌*◌, ◌≤◌, Bool, cond, not, ◌&&◌, ◌||◌, [], ◌∷◌, Result, Ok, Err, leb, ltb, eqb}
 use Rattle.wire.specs.Choose.{choose, all, within}
 use Rattle.rules.specs.declared.Rules.{Rules}
 use Rattle.rules.specs.declared.Totals.{Totals}
 use Rattle.rules.specs.declared.Verdict.{Verdict}
-use Rattle.rules.specs.declared.DaysVerdict.{DaysVerdict}
-use Rattle.rules.specs.declared.DaysVerdict.TheVariants as answer
+use Rattle.rules.specs.declared.NoVerdict.{NoVerdict}
+use Rattle.rules.specs.declared.NoVerdict.TheVariants as none
 
 -- The day's verdict and The month: the numbers of version 9.6
 abbrev pub version96 : Rules
@@ -91,10 +91,10 @@ pub data Judgement : Type 0 where
   too_many_days : Judgement
 
 -- what an answer of days_verdict means
-abbrev pub days_meaning : DaysVerdict → Judgement
-days_meaning (answer.Decided v) = decided v
-days_meaning answer.Refused = refusal 24
-days_meaning answer.TooManyDays = too_many_days
+abbrev pub days_meaning : Result Verdict NoVerdict → Judgement
+days_meaning (Ok v) = decided v
+days_meaning (Err none.Refused) = refusal 24
+days_meaning (Err none.TooManyDays) = too_many_days
 
 -- the verdict on the totals of d days, top to bottom
 unfoldable pub days_verdict : (d : ℕ) → Totals → (B : ℕ) → Judgement

@@ -3,15 +3,17 @@ use Prim.Native.Nat.{ℕ, ◌<◌}
 use mathlib.Core.Bool.{Bool, true, false}
 use mathlib.Core.List.{List}
 use mathlib.Core.Path.{◌≡◌, sym, ap, ◌∙◌}
+use Rattle.std.specs.Prelude.{Some, None}
 use Rattle.wire.specs.Choose.{within}
 use Rattle.wire.proofs.Choose.{each, none_at}
 use Rattle.rules.specs.Verdict.{is_benchmark}
-use Rattle.records.specs.Fields.{is_letter, group_in_range}
+use Rattle.records.specs.Fields.{are_letters, group_in_range}
 use Rattle.records.specs.declared.fields.Group.{Group}
-use Rattle.schedule.specs.Outcome.{good}
-use Rattle.lookup.specs.Lookup.{group_is, group_listed, firm_is, firm_listed, found, unlisted, GroupPlace, group_at, group_found_at, group_found, firm_found}
+use Rattle.refusals.specs.Outcome.{good}
+use Rattle.lookup.specs.Lookup.{group_is, group_listed, firm_is, firm_listed, group_at, group_found_at, group_found, firm_found}
 use Rattle.schedule.specs.Check.{check_of}
 use Rattle.schedule.specs.Good.{Once, Only, Searched}
+use Rattle.lookup.specs.declared.GroupPlace.{GroupPlace}
 use Rattle.lookup.specs.declared.Layout.{Layout}
 use Rattle.lookup.proofs.Laws.{FoundAt, firm-found, firm_unlisted, group-found, group_placed, group_unlisted}
 use Rattle.schedule.proofs.Good.{good-schedule}
@@ -22,8 +24,7 @@ only {n} {p} {i} once f = record { inside = f.inside; holds = f.holds; only = λ
 
 -- the fields of a group that are in range, one by one
 pub record InRange (g : Group) : Type 0 where
-  pub first : is_letter g.first ≡ true
-  pub second : is_letter g.second ≡ true
+  pub code : are_letters g.code ≡ true
   pub grouping : within 1 2 g.grouping ≡ true
   pub k : within 1 64 g.k ≡ true
   pub benchmark : is_benchmark g.benchmark ≡ true
@@ -34,11 +35,10 @@ in_range : (g : Group) → group_in_range g ≡ true → InRange g
 unfolding group_in_range
 in_range g e =
     let t = each _ e in
-    let u = t.1.1.1 in
+    let u = t.1.1 in
     record {
-      first = t.0;
-      second = t.1.0;
-      grouping = t.1.1.0;
+      code = t.0;
+      grouping = t.1.0;
       k = u.0;
       benchmark = u.1.0;
       front = u.1.1.0;
@@ -49,20 +49,20 @@ module _ (S : List ℕ) {l : Layout} (e : check_of S ≡ good l) where
   pub group-listed : (g : ℕ) → g < l.groups → InRange (group_at S l g)
   group-listed g h = in_range (group_at S l g) ((good-schedule S e).ranges g h)
 
-  only_group : (x y : ℕ) {g : GroupPlace} → group_found S l x y ≡ found g → Only l.groups (group_is S l.first x y) g.index
-  only_group x y f = only ((good-schedule S e).group_once x y) (group-found S l x y (sym f))
+  only_group : (C : List ℕ) {g : GroupPlace} → group_found S l C ≡ Some g → Only l.groups (group_is S l.first C) g.index
+  only_group C f = only ((good-schedule S e).group_once C) (group-found S l C (sym f))
 
-  group-stands : (x y : ℕ) {g : GroupPlace} → group_found S l x y ≡ found g → g ≡ group_found_at S l g.index
-  group-stands x y f = group_placed S l x y (sym f) ∙ ap (group_found_at S l) (group-found S l x y (sym f)).first
+  group-stands : (C : List ℕ) {g : GroupPlace} → group_found S l C ≡ Some g → g ≡ group_found_at S l g.index
+  group-stands C f = group_placed S l C (sym f) ∙ ap (group_found_at S l) (group-found S l C (sym f)).first
 
-  no-group : (x y : ℕ) → group_found S l x y ≡ unlisted → (i : ℕ) → i < l.groups → group_is S l.first x y i ≡ false
+  no-group : (C : List ℕ) → group_found S l C ≡ None → (i : ℕ) → i < l.groups → group_is S l.first C i ≡ false
   unfolding group_listed
-  no-group x y f = none_at _ _ (group_unlisted S l x y (sym f))
+  no-group C f = none_at _ _ (group_unlisted S l C (sym f))
 
-  only_firm : (C : List ℕ) {i : ℕ} → firm_found S l C ≡ found i → Only l.firms (firm_is S l.start C) i
+  only_firm : (C : List ℕ) {i : ℕ} → firm_found S l C ≡ Some i → Only l.firms (firm_is S l.start C) i
   only_firm C f = only ((good-schedule S e).firm_once C) (firm-found S l C (sym f))
 
-  no-firm : (C : List ℕ) → firm_found S l C ≡ unlisted → (i : ℕ) → i < l.firms → firm_is S l.start C i ≡ false
+  no-firm : (C : List ℕ) → firm_found S l C ≡ None → (i : ℕ) → i < l.firms → firm_is S l.start C i ≡ false
   unfolding firm_listed
   no-firm C f = none_at _ _ (firm_unlisted S l C (sym f))
 

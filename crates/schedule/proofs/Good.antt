@@ -2,21 +2,23 @@
 use Prim.Native.Nat.{ℕ, zero, suc, ◌+◌, ◌-◌, ◌*◌, ◌%◌, ◌≤◌, ◌<◌}
 use mathlib.Core.Bool.{Bool, true, false, cond, not, false≢true}
 use mathlib.Core.List.{List, ◌++◌}
-use mathlib.Core.Path.{◌≡◌, refl, sym, ◌∙◌}
+use mathlib.Core.Path.{◌≡◌, refl, sym, ◌∙◌, subst}
 use native.Mathlib.Omega.{arith}
 use lib.Dec.{eqb, leb}
 use lib.ListN.{length, get_or, length-take, length-drop}
 use lib.Seq.{get_or-take}
 use borrow.Author.Count.{below_more}
 use borrow.Author.Tests.{leb-false, leb-true, eqb-true, eqb-false, eq-eqb, not-true}
+use Rattle.std.proofs.lemmas.Slice.Eq.{bytes_eq-Decides}
 use Rattle.wire.specs.Choose.{within}
 use Rattle.wire.proofs.Bools.{and_left, and_right, range, in_range}
-use Rattle.wire.proofs.Choose.{here, next, done, chosen, each, none_at, choose_most, every}
+use Rattle.wire.proofs.Choose.{here, next, done, chosen, none_at, choose_most, every}
 use Rattle.records.specs.Bodies.{length_at, kind_at, rest_at, body_at, head_size, least_group, largest_group, firm_size}
 use Rattle.records.specs.Fields.{head_fields, head_ok, group_fields, group_in_range, firm_fields, has_code}
+use Rattle.records.proofs.Parts.{code-letters}
 use Rattle.contracts.specs.Listing.{contracts_ok, listed}
 use Rattle.records.specs.declared.fields.Firm.{Firm}
-use Rattle.schedule.specs.Outcome.{refused, good}
+use Rattle.refusals.specs.Outcome.{refused, good}
 use Rattle.lookup.specs.Lookup.{group_start, firm_start, group_is, firm_is, group_listed, firm_listed}
 use Rattle.schedule.specs.Check.{kind_here, is_due, length_ok, fields_ok, is_repeated, header_causes, body_causes, cause, with_record, after, ending, scan, begin, check_of}
 use Rattle.schedule.specs.Good.{Once, GroupStands, FirmStands, GoodSchedule, Numbered}
@@ -96,7 +98,7 @@ record Sound (S : List ℕ) (p : Cursor) : Type 0 where
   groups : (i : ℕ) → i < p.held.groups → GroupStands S (group_start S p.held.first i)
   ranges : (i : ℕ) → i < p.held.groups → group_in_range (group_fields (body_at S (group_start S p.held.first i))) ≡ true
   firms : (i : ℕ) → i < p.held.firms → FirmStands S (firm_start p.held.start i)
-  group_once : (x y : ℕ) → Once p.held.groups (group_is S p.held.first x y)
+  group_once : (C : List ℕ) → Once p.held.groups (group_is S p.held.first C)
   firm_once : (C : List ℕ) → Once p.held.firms (firm_is S p.held.start C)
 
 sound_begin : (S : List ℕ) → Sound S begin
@@ -110,7 +112,7 @@ sound_begin S =
       groups = λ i h. absurd (omega arith);
       ranges = λ i h. absurd (omega arith);
       firms = λ i h. absurd (omega arith);
-      group_once = λ x y i j h. absurd (omega arith);
+      group_once = λ C i j h. absurd (omega arith);
       firm_once = λ C i j h. absurd (omega arith);
     }
 
@@ -120,28 +122,19 @@ body_byte S at k h = get_or-take (length_at S at - 4) (rest_at S at) k 0 (omega 
 
 -- a group whose code is not listed before it has no other's code
 new_group : (S : List ℕ) (l : Layout) → 5 < length_at S (group_start S l.first l.groups)
-    → group_listed S l (group_fields (body_at S (group_start S l.first l.groups))).first (group_fields (body_at S (group_start S l.first l.groups))).second ≡ false
-    → (x y : ℕ) → group_is S l.first x y l.groups ≡ true → (i : ℕ) → i < l.groups → group_is S l.first x y i ≡ false
+    → group_listed S l (group_fields (body_at S (group_start S l.first l.groups))).code ≡ false
+    → (C : List ℕ) → group_is S l.first C l.groups ≡ true → (i : ℕ) → i < l.groups → group_is S l.first C i ≡ false
 unfolding group_listed group_is group_fields
-new_group S l long u x y e i h =
-    let t = each _ e in
+new_group S l long u C e i h =
     let at = group_start S l.first l.groups in
     let g = group_fields (body_at S at) in
-    let a : g.first ≡ x = body_byte S at 0 (omega arith) ∙ eqb-true _ _ t.0 in
-    let b : g.second ≡ y = body_byte S at 1 (omega arith) ∙ eqb-true _ _ t.1.0 in
-    rw (a, b) at (none_at l.groups (group_is S l.first g.first g.second) u i h)
+    let same : g.code ≡ C = rw (body_byte S at 0 (omega arith), body_byte S at 1 (omega arith)) ((bytes_eq-Decides _ C).0 e) in
+    subst (λ (D : List ℕ). group_is S l.first D i ≡ false) same (none_at l.groups (group_is S l.first g.code) u i h)
 
--- two codes of one firm are had by the same firms: both are its three letters
+-- two codes of one firm are had by the same firms: both are its letters
 codes_agree : (f g : Firm) (C D : List ℕ) → has_code f C ≡ true → has_code f D ≡ true → has_code g C ≡ has_code g D
 unfolding has_code
-codes_agree f g C D c d =
-    let p = each _ c in
-    let q = each _ d in
-    let l : length C ≡ length D = eqb-true _ _ p.0 ∙ sym (eqb-true _ _ q.0) in
-    let a : get_or C 0 0 ≡ get_or D 0 0 = sym (eqb-true _ _ p.1.0) ∙ eqb-true _ _ q.1.0 in
-    let b : get_or C 1 0 ≡ get_or D 1 0 = sym (eqb-true _ _ p.1.1.0) ∙ eqb-true _ _ q.1.1.0 in
-    let t : get_or C 2 0 ≡ get_or D 2 0 = sym (eqb-true _ _ p.1.1.1.0) ∙ eqb-true _ _ q.1.1.1.0 in
-    rw (l, a, b, t)
+codes_agree f g C D c d = rw (sym ((bytes_eq-Decides f.code C).0 c) ∙ (bytes_eq-Decides f.code D).0 d)
 
 -- a firm has its body as a code
 own_code : (S : List ℕ) (at : ℕ) → length_at S at ≡ firm_size → length (body_at S at) ≡ 3 → has_code (firm_fields (rest_at S at)) (body_at S at) ≡ true
@@ -149,7 +142,7 @@ unfolding has_code firm_fields
 own_code S at seven e =
     let same : (k : ℕ) → k < 3 → eqb (get_or (rest_at S at) k 0) (get_or (body_at S at) k 0) ≡ true
     = λ k h. eq-eqb _ _ (sym (body_byte S at k (omega arith))) in
-    every _ (eq-eqb _ _ e, (same 0 (omega arith), (same 1 (omega arith), (same 2 (omega arith), tt))))
+    code-letters _ _ _ (body_at S at) ∙ every _ (eq-eqb _ _ e, (same 0 (omega arith), (same 1 (omega arith), (same 2 (omega arith), tt))))
 
 -- so a firm whose code is not listed before it has no other's code
 module _ (S : List ℕ) (l : Layout) (seven : length_at S (firm_start l.start l.firms) ≡ firm_size) (inside : firm_start l.start l.firms + firm_size ≤ length S) where
@@ -208,7 +201,7 @@ module _ (S : List ℕ) (p : Cursor) where
         groups = λ i h. absurd (omega arith);
         ranges = λ i h. absurd (omega arith);
         firms = λ i h. absurd (omega arith);
-        group_once = λ x y i j h. absurd (omega arith);
+        group_once = λ C i j h. absurd (omega arith);
         firm_once = λ C i j h. absurd (omega arith);
       }
   sound_after kind.Group number due sized fits fields once l s =
@@ -236,7 +229,7 @@ module _ (S : List ℕ) (p : Cursor) where
         groups = below_more _ _ s.groups (rw stands at stand);
         ranges = below_more _ _ s.ranges (rw stands at fine);
         firms = λ i h. absurd (omega arith);
-        group_once = λ x y. once_more p.held.groups (group_is S p.held.first x y) (s.group_once x y) (new_group S p.held (rw stands at long) (rw stands at once) x y);
+        group_once = λ C. once_more p.held.groups (group_is S p.held.first C) (s.group_once C) (new_group S p.held (rw stands at long) (rw stands at once) C);
         firm_once = λ C i j h. absurd (omega arith);
       }
   sound_after kind.Firm number due sized fits fields once l s =

@@ -8,7 +8,7 @@ use lib.ListN.{length}
 use borrow.Author.Tests.{le-leb, lt-leb, eq-eqb, ne_eqb, eqb-true, eqb-false, ltb-false, not-false}
 use Rattle.wire.proofs.Choose.{here, next, done, chosen, passed}
 use Rattle.records.specs.Bodies.{length_at, body_at, head_size, largest_group, firm_size}
-use Rattle.schedule.specs.Outcome.{refused}
+use Rattle.refusals.specs.Outcome.{refused}
 use Rattle.schedule.specs.Check.{kind_here, is_due, length_ok, is_full, fields_ok, is_repeated, cause, with_record, after, ending, scan}
 use Rattle.schedule.specs.declared.scan.Cursor.{Cursor}
 use Rattle.schedule.specs.declared.scan.Kind.{Kind}

@@ -7,14 +7,12 @@ use Rattle.rules.specs.Marks.{most_groups}
 use Rattle.records.specs.Bodies.{length_at, kind_at, body_at, head_kind, group_kind, firm_kind, head_size, least_group, largest_group, firm_size}
 use Rattle.records.specs.Fields.{head_fields, head_ok, group_fields, firm_fields, firm_ok}
 use Rattle.contracts.specs.Listing.{group_ok}
-use Rattle.schedule.specs.Outcome.{Outcome, refused, good}
+use Rattle.refusals.specs.Outcome.{Outcome, refused, good}
 use Rattle.lookup.specs.Lookup.{group_listed, firm_listed}
 use Rattle.lookup.specs.declared.Layout.{Layout}
 use Rattle.schedule.specs.declared.scan.Kind.{Kind}
 use Rattle.schedule.specs.declared.scan.Kind.TheVariants as kind
 use Rattle.schedule.specs.declared.scan.Cursor.{Cursor}
-use Rattle.schedule.specs.declared.scan.Checked.{Checked}
-use Rattle.schedule.specs.declared.scan.Checked.TheVariants as checked
 
 -- Records: kind 1, head; kind 2, group; kind 3, firm
 unfoldable pub kind_of : (number : ℕ) → Kind
@@ -55,7 +53,7 @@ fields_ok kind.Other B = true
 -- Numbers of refusal, 6: a record of its kind before it has its code
 unfoldable pub is_repeated : Kind → (S : List ℕ) → Layout → (B : List ℕ) → Bool
 is_repeated kind.Head S l B = false
-is_repeated kind.Group S l B = group_listed S l (group_fields B).first (group_fields B).second
+is_repeated kind.Group S l B = group_listed S l (group_fields B).code
 is_repeated kind.Firm S l B = firm_listed S l B
 is_repeated kind.Other S l B = false
 
@@ -125,8 +123,3 @@ begin = record { at = 0; held = nothing }
 -- the check of a schedule; each accepted record has a byte, so its length is fuel enough
 unfoldable pub check_of : (S : List ℕ) → Outcome Layout
 check_of S = scan S (length S + 1) begin
-
--- what the check's answer means: a refusal, or what the schedule holds
-abbrev pub check_meaning : Checked → Outcome Layout
-check_meaning (checked.Refused number offset) = refused number offset
-check_meaning (checked.Good l) = good l

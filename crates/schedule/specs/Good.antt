@@ -1,15 +1,16 @@
 -- What the check's answer tells (document 01, "Records"): what a good schedule holds, and that a refusal has a number. Proved in proofs/Good.antt
 -- and Found.antt.
 -- Assumes nothing.
-use Rattle.std.specs.Prelude.{ℕ, ◌+◌, ◌*◌, ◌≤◌, ◌<◌, Bool, true, false, List, ◌≡◌, length}
+use Rattle.std.specs.Prelude.{ℕ, ◌+◌, ◌*◌, ◌≤◌, ◌<◌, Bool, true, false, List, Some, None, ◌≡◌, length}
 use Rattle.wire.specs.Choose.{within}
 use Rattle.rules.specs.Marks.{most_groups}
 use Rattle.records.specs.Bodies.{length_at, kind_at, body_at, head_kind, group_kind, firm_kind, head_size, firm_size}
 use Rattle.records.specs.Fields.{head_fields, head_ok, group_in_range, firm_fields, firm_ok}
 use Rattle.contracts.specs.Listing.{contracts_ok, listed}
-use Rattle.schedule.specs.Outcome.{refused}
-use Rattle.lookup.specs.Lookup.{group_start, firm_start, group_at, group_is, firm_is, found, unlisted, GroupPlace, group_found_at, group_found, firm_found}
+use Rattle.refusals.specs.Outcome.{refused}
+use Rattle.lookup.specs.Lookup.{group_start, firm_start, group_at, group_is, firm_is, group_found_at, group_found, firm_found}
 use Rattle.schedule.specs.Check.{most_firms, check_of}
+use Rattle.lookup.specs.declared.GroupPlace.{GroupPlace}
 use Rattle.lookup.specs.declared.Layout.{Layout}
 
 -- a test holds at one place below n at the most
@@ -52,7 +53,7 @@ pub record GoodSchedule (S : List ℕ) (l : Layout) : Type 0 where
   pub ranges : (i : ℕ) → i < l.groups → group_in_range (group_at S l i) ≡ true
   pub firms : (i : ℕ) → i < l.firms → FirmStands S (firm_start l.start i)
   -- no code is repeated in its kind
-  pub group_once : (x y : ℕ) → Once l.groups (group_is S l.first x y)
+  pub group_once : (C : List ℕ) → Once l.groups (group_is S l.first C)
   pub firm_once : (C : List ℕ) → Once l.firms (firm_is S l.start C)
 
 -- of n records, i is the only one of which the test holds
@@ -63,11 +64,11 @@ pub record Only (n : ℕ) (p : ℕ → Bool) (i : ℕ) : Type 0 where
 
 -- what a search by code in a good schedule tells: a code that is found has one place, and one that is unlisted has none
 pub record Searched (S : List ℕ) (l : Layout) : Type 0 where
-  pub group : (x y : ℕ) {g : GroupPlace} → group_found S l x y ≡ found g → Only l.groups (group_is S l.first x y) g.index
-  pub group_stands : (x y : ℕ) {g : GroupPlace} → group_found S l x y ≡ found g → g ≡ group_found_at S l g.index
-  pub no_group : (x y : ℕ) → group_found S l x y ≡ unlisted → (i : ℕ) → i < l.groups → group_is S l.first x y i ≡ false
-  pub firm : (C : List ℕ) {i : ℕ} → firm_found S l C ≡ found i → Only l.firms (firm_is S l.start C) i
-  pub no_firm : (C : List ℕ) → firm_found S l C ≡ unlisted → (i : ℕ) → i < l.firms → firm_is S l.start C i ≡ false
+  pub group : (C : List ℕ) {g : GroupPlace} → group_found S l C ≡ Some g → Only l.groups (group_is S l.first C) g.index
+  pub group_stands : (C : List ℕ) {g : GroupPlace} → group_found S l C ≡ Some g → g ≡ group_found_at S l g.index
+  pub no_group : (C : List ℕ) → group_found S l C ≡ None → (i : ℕ) → i < l.groups → group_is S l.first C i ≡ false
+  pub firm : (C : List ℕ) {i : ℕ} → firm_found S l C ≡ Some i → Only l.firms (firm_is S l.start C) i
+  pub no_firm : (C : List ℕ) → firm_found S l C ≡ None → (i : ℕ) → i < l.firms → firm_is S l.start C i ≡ false
 
 -- a refusal of the check always has one of document 01's numbers
 abbrev pub Numbered : (S : List ℕ) → Type 0

@@ -1,3 +1,2 @@
-pub mod Outcome
 pub mod Check
 pub mod Good

@@ -3,4 +3,4 @@
 
 mod scan;
 
-pub use scan::{Checked, check};
+pub use scan::check;

@@ -1,16 +1,17 @@
 // The check of a whole schedule, record by record.
 ghost use Rattle.std.specs.Prelude.{◌≡◌, ◌+◌, ◌^◌, ◌≤◌, ◌<◌, length};
 ghost use Rattle.wire.specs.Choose.{choose};
-ghost use Rattle.lookup.specs.Lookup.{group_listed, firm_listed};
+ghost use Rattle.refusals.specs.Outcome.{cause_number, outcome};
 ghost use Rattle.schedule.specs.Check.{kind_of, is_due, length_ok, is_full, fields_ok, is_repeated};
-ghost use Rattle.schedule.specs.Check.{header_causes, body_causes, cause, with_record, after, check_meaning, check_of};
+ghost use Rattle.schedule.specs.Check.{header_causes, body_causes, cause, with_record, after, check_of};
 
 use contracts::contracts_ok;
-use lookup::{FoundFirm, FoundGroup, Layout, find_firm, find_group};
+use lookup::{Layout, find_firm, find_group};
 use records::{
     FIRM_KIND, FIRM_SIZE, GROUP_KIND, GROUP_LEAST, GROUP_MOST, HEAD_KIND, HEAD_SIZE, body_at,
     firm_fields, firm_ok, group_fields, group_in_range, head_fields, head_ok,
 };
+use refusals::{Cause, Refusal};
 use wire::u16_at;
 
 // The kinds of a schedule's records.
@@ -29,28 +30,20 @@ struct Cursor {
     held: Layout,
 }
 
-// A refusal's number and offset, or what the schedule holds.
-#[derive(Clone, Copy)]
-pub enum Checked {
-    Refused { number: u8, offset: usize },
-    Good(Layout),
+impl From<u16> for Kind {
+    ghost from_gives = { λ number kind. kind ≡ kind_of number };
+
+    fn from(number: u16) -> Kind {
+        match number {
+            HEAD_KIND => Kind::Head,
+            GROUP_KIND => Kind::Group,
+            FIRM_KIND => Kind::Firm,
+            _ => Kind::Other,
+        }
+    }
 }
 
-fn kind_of(number: u16) -> Kind
-    ensures { result ≡ kind_of number }
-{
-    if number == HEAD_KIND {
-        return Kind::Head;
-    }
-    if number == GROUP_KIND {
-        return Kind::Group;
-    }
-    if number == FIRM_KIND {
-        return Kind::Firm;
-    }
-    Kind::Other
-}
-
+#[tactic(auto, unfolding(crate::specs::Check::is_due))]
 fn is_due(kind: Kind, p: Cursor) -> bool
     ensures { result ≡ is_due kind p }
 {
@@ -62,17 +55,19 @@ fn is_due(kind: Kind, p: Cursor) -> bool
     }
 }
 
+#[tactic(auto, unfolding(crate::specs::Check::length_ok))]
 fn length_ok(kind: Kind, len: usize) -> bool
     ensures { result ≡ length_ok kind len }
 {
     match kind {
         Kind::Head => len == HEAD_SIZE,
-        Kind::Group => (GROUP_LEAST <= len) & (len <= GROUP_MOST) & (len % 2 == 0),
+        Kind::Group => (GROUP_LEAST..=GROUP_MOST).contains(&len) & (len % 2 == 0),
         Kind::Firm => len == FIRM_SIZE,
         Kind::Other => false,
     }
 }
 
+#[tactic(auto, unfolding(crate::specs::Check::is_full))]
 fn is_full(kind: Kind, l: Layout) -> bool
     ensures { result ≡ is_full kind l }
 {
@@ -95,95 +90,68 @@ fn fields_ok(kind: Kind, body: &[u8]) -> bool
     }
 }
 
-fn group_listed(s: &[u8], l: Layout, x: u8, y: u8) -> bool
-    ensures { result ≡ group_listed s.now l x y }
-{
-    match find_group(s, l, x, y) {
-        FoundGroup::At {
-            index: _,
-            offset: _,
-        } => true,
-        FoundGroup::Nothing => false,
-    }
-}
-
-fn firm_listed(s: &[u8], l: Layout, code: &[u8]) -> bool
-    ensures { result ≡ firm_listed s.now l code.now }
-{
-    match find_firm(s, l, code) {
-        FoundFirm::At(_) => true,
-        FoundFirm::Nothing => false,
-    }
-}
-
 fn is_repeated(kind: Kind, s: &[u8], l: Layout, body: &[u8]) -> bool
     ensures { result ≡ is_repeated kind s.now l body.now }
 {
     match kind {
         Kind::Head => false,
-        Kind::Group => {
-            let g = group_fields(body);
-            group_listed(s, l, g.first, g.second)
-        }
-        Kind::Firm => firm_listed(s, l, body),
+        Kind::Group => find_group(s, l, group_fields(body).code).is_some(),
+        Kind::Firm => find_firm(s, l, body).is_some(),
         Kind::Other => false,
     }
 }
 
-// The first of 1, 2 and 3 that refuses the record at p, 0 where none does.
-fn header_cause(s: &[u8], p: Cursor) -> u8
+// The causes 1, 2 and 3 of the record at p.
+fn check_header(s: &[u8], p: Cursor) -> Result<(), Cause>
     requires { p.at ≤ length s.now }
-    ensures { result ≡ choose (header_causes s.now p) 0 }
+    ensures { cause_number result ≡ choose (header_causes s.now p) 0 }
 {
     let at = p.at;
     if s.len() - at < 4 {
-        return 1;
+        return Err(Cause::Cut);
     }
-    let kind = kind_of(u16_at(s, at + 2));
+    let kind = Kind::from(u16_at(s, at + 2));
     if !is_due(kind, p) {
-        return 2;
+        return Err(Cause::NotDue);
     }
     let len = u16_at(s, at) as usize;
     if !length_ok(kind, len) {
-        return 3;
+        return Err(Cause::WrongLength);
     }
     if s.len() - at < len {
-        return 1;
+        return Err(Cause::Cut);
     }
-    0
+    Ok(())
 }
 
-// The first of 7, 5 and 6 that refuses the record at p, 0 where none does.
-fn body_cause(s: &[u8], p: Cursor) -> u8
+// Its causes 7, 5 and 6.
+fn check_body(s: &[u8], p: Cursor) -> Result<(), Cause>
     requires { p.at + 4 ≤ length s.now }
-    ensures { result ≡ choose (body_causes s.now p) 0 }
+    ensures { cause_number result ≡ choose (body_causes s.now p) 0 }
 {
     let at = p.at;
     let l = p.held;
-    let kind = kind_of(u16_at(s, at + 2));
+    let kind = Kind::from(u16_at(s, at + 2));
     if is_full(kind, l) {
-        return 7;
+        return Err(Cause::TooMany);
     }
     let body = body_at(s, at);
     if !fields_ok(kind, body) {
-        return 5;
+        return Err(Cause::BadField);
     }
     if is_repeated(kind, s, l, body) {
-        return 6;
+        return Err(Cause::Repeated);
     }
-    0
+    Ok(())
 }
 
-// The number of the first cause that refuses the record at p, 0 where none does.
-fn cause_of(s: &[u8], p: Cursor) -> u8
+// The first cause that refuses the record at p.
+fn check_record(s: &[u8], p: Cursor) -> Result<(), Cause>
     requires { p.at ≤ length s.now }
-    ensures { result ≡ cause s.now p }
+    ensures { cause_number result ≡ cause s.now p }
 {
-    let number = header_cause(s, p);
-    if number != 0 {
-        return number;
-    }
-    body_cause(s, p)
+    check_header(s, p)?;
+    check_body(s, p)
 }
 
 // What the schedule holds with one record more, which ends at `next`.
@@ -198,26 +166,18 @@ fn with_record(kind: Kind, body: &[u8], next: usize, l: Layout) -> Layout
                 month: head.month,
                 closed: head.closed,
                 first: next as u32,
-                groups: l.groups,
                 start: next as u32,
-                firms: l.firms,
+                ..l
             }
         }
         Kind::Group => Layout {
-            month: l.month,
-            closed: l.closed,
-            first: l.first,
             groups: l.groups + 1,
             start: next as u32,
-            firms: l.firms,
+            ..l
         },
         Kind::Firm => Layout {
-            month: l.month,
-            closed: l.closed,
-            first: l.first,
-            groups: l.groups,
-            start: l.start,
             firms: l.firms + 1,
+            ..l
         },
         Kind::Other => l,
     }
@@ -231,42 +191,43 @@ fn next_record(s: &[u8], p: Cursor) -> Cursor
     let at = p.at;
     let l = p.held;
     let next = at + u16_at(s, at) as usize;
-    let kind = kind_of(u16_at(s, at + 2));
+    let kind = Kind::from(u16_at(s, at + 2));
     let held = with_record(kind, body_at(s, at), next, l);
     Cursor { at: next, held }
 }
 
+// Nothing was read yet.
+const NOTHING: Layout = Layout {
+    month: 0,
+    closed: 0,
+    first: 0,
+    groups: 0,
+    start: 0,
+    firms: 0,
+};
+
 // Checks a whole schedule: the first cause of refusal and its record's offset, or what the schedule holds.
-pub fn check(schedule: &[u8]) -> Checked
-    ensures { check_meaning result ≡ check_of schedule.now }
+pub fn check(schedule: &[u8]) -> Result<Layout, Refusal>
+    ensures { outcome result ≡ check_of schedule.now }
 {
     let mut p = Cursor {
         at: 0,
-        held: Layout {
-            month: 0,
-            closed: 0,
-            first: 0,
-            groups: 0,
-            start: 0,
-            firms: 0,
-        },
+        held: NOTHING,
     };
     while p.at < schedule.len() {
-        let number = cause_of(schedule, p);
-        if number != 0 {
-            return Checked::Refused {
-                number,
+        if let Err(cause) = check_record(schedule, p) {
+            return Err(Refusal {
+                cause,
                 offset: p.at,
-            };
+            });
         }
         p = next_record(schedule, p);
     }
-    let l = p.held;
-    if l.firms == 0 {
-        return Checked::Refused {
-            number: 4,
+    if p.held.firms == 0 {
+        return Err(Refusal {
+            cause: Cause::Missing,
             offset: schedule.len(),
-        };
+        });
     }
-    Checked::Good(l)
+    Ok(p.held)
 }

@@ -16,14 +16,12 @@ fn hex_digit(n: u8) -> u8
 }
 
 // The digit at a place of the text: a byte's upper half stands first.
+#[tactic(auto, unfolding(crate::specs::Hex::hex_at))]
 fn hex_at(bytes: &[u8], i: usize) -> u8
     ensures { result ≡ hex_at bytes.now i }
 {
     let byte = byte_at(bytes, i / 2);
-    if i % 2 == 0 {
-        return hex_digit(byte / 16);
-    }
-    hex_digit(byte % 16)
+    hex_digit(if i % 2 == 0 { byte / 16 } else { byte % 16 })
 }
 
 // Writes the text of the bytes over the front of an array, as much of it as there is room for, and answers how much.
@@ -32,10 +30,9 @@ pub fn put_hex(bytes: &[u8], text: &mut [u8]) -> usize
     ensures value { result ≡ hex_room bytes.now text.old }
     ensures text_after { text.new ≡ over (table (hex_room bytes.now text.old) (hex_at bytes.now)) text.old }
 {
-    let mut i: usize = 0;
-    while (i < text.len()) & (i / 2 < bytes.len()) {
-        text[i] = hex_at(bytes, i);
-        i += 1;
+    let room = text.len().min(2 * bytes.len());
+    for (i, digit) in text[..room].iter_mut().enumerate() {
+        *digit = hex_at(bytes, i);
     }
-    i
+    room
 }

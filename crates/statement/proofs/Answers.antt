@@ -2,44 +2,45 @@
 use Prim.Native.Nat.{ℕ, ◌+◌, ◌*◌, ◌≤◌, ◌<◌}
 use mathlib.Core.Bool.{Bool, true, false, cond, not}
 use mathlib.Core.List.{List}
-use mathlib.Core.Path.{◌≡◌, refl, ap, ◌∙◌}
+use mathlib.Core.Path.{◌≡◌, refl, sym, ap, ◌∙◌}
 use native.Mathlib.Omega.{arith}
 use lib.Dec.{eqb, ltb}
 use lib.ListN.{length}
 use borrow.Author.Tests.{ltb-false, lt-ltb, le-ltb}
+use Rattle.std.specs.Prelude.{Ok}
 use Rattle.wire.specs.Lists.{table, over}
-use Rattle.wire.specs.Sums.{bit, count}
+use Rattle.wire.specs.Sums.{bit}
 use Rattle.wire.proofs.Lists.{table_at}
 use Rattle.wire.proofs.Sums.{sum_same}
 use Rattle.rules.specs.Marks.{places, group_of, Judged, mark}
 use Rattle.records.specs.Bodies.{body_at}
 use Rattle.records.specs.Fields.{group_fields}
-use Rattle.schedule.specs.Outcome.{Outcome, refused, good}
+use Rattle.refusals.specs.Outcome.{Outcome, refused, good}
 use Rattle.lookup.specs.Lookup.{group_start, group_at}
 use Rattle.lookup.specs.InForce.{rules_of}
 use Rattle.lookup.specs.declared.Layout.{Layout}
 use Rattle.schedule.proofs.Good.{refused-good}
-use Rattle.month.specs.Month.{starts_of, groupings_of, firm_month, month_answer}
+use Rattle.month.specs.Month.{starts_of, groupings_of, firm_month, month_answer, MonthIs}
 use Rattle.statement.specs.Layout.{line_size, both_totals}
 use Rattle.statement.specs.Statement.{statement_bytes, need, statement_answer, StatementIs}
 use Rattle.month.specs.Parts.{held_grouping}
-use Rattle.statement.specs.Parts.{held_mark, held_factor, held_group, held_shown}
-use Rattle.statement.specs.declared.Stated.TheVariants as stated
+use Rattle.month.specs.declared.Month.{Month}
+use Rattle.statement.specs.Parts.{held_mark, held_factor, held_group, held_need, held_shown, HeldIs}
 use Rattle.statement.proofs.Shown.{marks-count, bytes-length, shown_same}
 
 module _ (S B C out : List ℕ) where
   -- 1 to 8, 21 and 22
-  pub is-refused : {n o : ℕ} → month_answer S B C ≡ refused n o → StatementIs S B C out (stated.Refused n o) out
+  pub is-refused : {n o : ℕ} → month_answer S B C ≡ refused n o → StatementIs S B C out (refused n o) out
   is-refused e = record { answer = rw e; output = rw e }
 
   module _ {l : Layout} (e : month_answer S B C ≡ good l) where
-    pub is_23 : length out < need (firm_month S B C l) → StatementIs S B C out (stated.Refused 23 0) out
+    pub is_23 : length out < need (firm_month S B C l) → StatementIs S B C out (refused 23 0) out
     is_23 h =
         let t = lt-ltb (length out) (need (firm_month S B C l)) h in
         record { answer = rw (e, t); output = rw (e, t) }
 
     pub is_written : need (firm_month S B C l) ≤ length out
-        → StatementIs S B C out (stated.Written (length (statement_bytes S l (firm_month S B C l)))) (over (statement_bytes S l (firm_month S B C l)) out)
+        → StatementIs S B C out (good (length (statement_bytes S l (firm_month S B C l)))) (over (statement_bytes S l (firm_month S B C l)) out)
     is_written h =
         let t = le-ltb (length out) (need (firm_month S B C l)) h in
         record { answer = rw (e, t); output = rw (e, t) }
@@ -63,26 +64,36 @@ module _ (S B C out : List ℕ) where
       go (refused number offset) q = absurd (refused-good (rw q at e))
       go (good l) q = under l (ltb (length out) (need (firm_month S B C l))) refl (rw q at e)
 
--- arrays that hold a month's marks and factors, and where the schedule's groups stand and their groupings
-module _ (S : List ℕ) (l : Layout) (j : Judged) (grouped : (i : ℕ) → j.grouping i ≡ (group_at S l (group_of i)).grouping) (starts groupings marks factors : List ℕ)
-    (o : starts ≡ starts_of S l) (q : groupings ≡ groupings_of S l) (p : marks ≡ table places (mark (rules_of S) j))
-    (r : factors ≡ table places (λ i. (j.verdict i).factor)) where
-  held-mark : (i : ℕ) → i < places → held_mark marks i ≡ mark (rules_of S) j i
+-- a month that holds the marks and factors of a judged one, and where the schedule's groups stand and their groupings
+module _ (S : List ℕ) (l : Layout) (j : Judged) (grouped : (i : ℕ) → j.grouping i ≡ (group_at S l (group_of i)).grouping) (m : Month)
+    (o : m.starts ≡ starts_of S l) (q : m.groupings ≡ groupings_of S l) (p : m.marks ≡ table places (mark (rules_of S) j))
+    (r : m.factors ≡ table places (λ i. (j.verdict i).factor)) where
+  held-mark : (i : ℕ) → i < places → held_mark m i ≡ mark (rules_of S) j i
   held-mark i h = rw p (table_at (mark (rules_of S) j) places i 0 h)
 
-  held-factor : (i : ℕ) → i < places → held_factor factors i ≡ (j.verdict i).factor
+  held-factor : (i : ℕ) → i < places → held_factor m i ≡ (j.verdict i).factor
   held-factor i h = rw r (table_at (λ i. (j.verdict i).factor) places i 0 h)
 
-  held-grouping : (i : ℕ) → i < places → held_grouping groupings i ≡ j.grouping i
+  held-grouping : (i : ℕ) → i < places → held_grouping m.groupings i ≡ j.grouping i
   held-grouping i h = rw (q, grouped) (table_at (λ g. (group_at S l g).grouping) 32 (group_of i) 0 (omega arith))
 
-  held-group : (i : ℕ) → i < places → held_group S starts (group_of i) ≡ group_at S l (group_of i)
+  held-group : (i : ℕ) → i < places → held_group S m (group_of i) ≡ group_at S l (group_of i)
   held-group i h = rw o (ap (λ at. group_fields (body_at S at)) (table_at (group_start S l.first) 32 (group_of i) 0 (omega arith)))
 
-  pub held-need : line_size * count places (λ i. not (eqb (held_mark marks i) 0)) + both_totals ≡ need j
+  pub held-need : held_need m ≡ need j
   held-need =
       ap (λ (n : ℕ). line_size * n + both_totals)
       (sum_same places _ _ (λ i h. ap (λ (k : ℕ). bit (not (eqb k 0))) (held-mark i h)) ∙ marks-count (rules_of S) j)
 
-  pub held-shown : held_shown (rules_of S) S starts groupings marks factors ≡ statement_bytes S l j
+  pub held-shown : held_shown (rules_of S) S m ≡ statement_bytes S l j
   held-shown = shown_same (rules_of S) _ _ _ _ _ _ _ _ held-group held-grouping held-mark held-factor
+
+-- what is written of a firm's month, or refused by 23, is the firm's statement
+pub stated : (S B C out : List ℕ) {m : Month} {a : Outcome ℕ} {out' : List ℕ} → MonthIs S B C (Ok m) → HeldIs S m out a out' → StatementIs S B C out a out'
+stated S B C out {m} told w =
+    let e = sym told.answer in
+    let h = told.held in
+    let j = firm_month S B C m.layout in
+    let n = held-need S m.layout j (λ i. refl) m h.starts h.groupings h.marks h.factors in
+    let s = held-shown S m.layout j (λ i. refl) m h.starts h.groupings h.marks h.factors in
+    record { answer = rw e (rw (n, s) at w.answer); output = rw e (rw (n, s) at w.output) }

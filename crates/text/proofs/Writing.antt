@@ -2,7 +2,7 @@
 use Prim.Native.Nat.{ℕ, ◌+◌, ◌-◌, ◌≤◌, min}
 use mathlib.Core.Bool.{Bool, true, false, ◌&&◌, and-true, and_assoc}
 use mathlib.Core.List.{List, [], ◌++◌, append_assoc, append-nil}
-use mathlib.Core.Path.{◌≡◌, refl, sym, ap, ap₂, subst, ◌∙◌}
+use mathlib.Core.Path.{◌≡◌, refl, sym, ap, ap₂, ◌∙◌}
 use native.Mathlib.Nat.{le_refl, min-le_left, min-le_right, min-eq_right, min-zero, add_assoc, add-zero}
 use native.Mathlib.Omega.{arith}
 use lib.Dec.{leb, eqb}
@@ -11,7 +11,7 @@ use lib.Seq.{paste, paste-zero, length-paste, take-paste, drop-paste, drop-drop,
 use borrow.Author.Tests.{leb-true, leb-false, eqb-true, eqb-false, eq-eqb, ne_eqb}
 use Rattle.wire.specs.Lists.{joined}
 use Rattle.wire.proofs.Lists.{joined-none, joined_more}
-use Rattle.text.specs.declared.Place.{Place}
+use Rattle.text.specs.declared.Output.{Output}
 use Rattle.text.specs.Text.{room, Wrote}
 
 -- what there is room for of two texts: of the first, then of the second what is left; where the first is cut, the second has no room
@@ -112,42 +112,34 @@ module _ (O : List ℕ) (at : ℕ) (T U : List ℕ) where
           let past : length O ≤ at = omega (arith, leb-false at (length O) e) in
           paste_past O' r U (omega (arith, written_length O at T)) ∙ paste_past O at T past ∙ sym (paste_past O at (T ++ U) past)
 
--- an output keeps its length
-pub wrote_length : {O : List ℕ} {p : Place} {T : List ℕ} {r : Place} {O' : List ℕ} → Wrote O p T r O' → length O' ≡ length O
-wrote_length {O} {p} {T} w = rw w.output (written_length O p.at T)
-
 infixl 40 ◌then◌
 -- one text, then another
-pub ◌then◌ : {O : List ℕ} {p : Place} {T : List ℕ} {r : Place} {O' U : List ℕ} {s : Place} {O'' : List ℕ}
-    → Wrote O p T r O' → Wrote O' r U s O'' → Wrote O p (T ++ U) s O''
-◌then◌ {O} {p} {T} {U = U} w v =
+pub ◌then◌ : {p : Output} {T : List ℕ} {r : Output} {U : List ℕ} {s : Output} → Wrote p T r → Wrote r U s → Wrote p (T ++ U) s
+◌then◌ {p} {T} {U = U} w v =
     record {
-      next = (rw (w.output, w.next) at v.next) ∙ sym (room_then O p.at T U);
+      same_reference = v.same_reference ∙ w.same_reference;
+      next = (rw (w.output, w.next) at v.next) ∙ sym (room_then p.bytes.now p.at T U);
       whole =
           (rw (w.output, w.next, w.whole) at v.whole)
           ∙ and_assoc p.whole _ _
-          ∙ ap (λ (b : Bool). p.whole && b) (whole_then O p.at T U);
-      output = (rw (w.output, w.next) at v.output) ∙ paste_then O p.at T U;
+          ∙ ap (λ (b : Bool). p.whole && b) (whole_then p.bytes.now p.at T U);
+      output = (rw (w.output, w.next) at v.output) ∙ paste_then p.bytes.now p.at T U;
     }
 
--- an equal text
-pub wrote_as : {O : List ℕ} {p : Place} {T U : List ℕ} {r : Place} {O' : List ℕ} → T ≡ U → Wrote O p T r O' → Wrote O p U r O'
-wrote_as {O} {p} {r = r} {O' = O'} e w = subst (λ (T : List ℕ). Wrote O p T r O') e w
-
 -- writing nothing
-pub wrote_none : (O : List ℕ) (p : Place) → Wrote O p [] p O
-wrote_none O p =
-    let z : min (length O - p.at) 0 ≡ 0 = min-zero (length O - p.at) in
+pub wrote_none : (p : Output) → Wrote p [] p
+wrote_none p =
+    let z : min (length p.bytes.now - p.at) 0 ≡ 0 = min-zero (length p.bytes.now - p.at) in
     record {
+      same_reference = refl;
       next = rw z (sym (add-zero p.at));
       whole = rw z (sym (and-true p.whole));
-      output = rw z (paste-zero O p.at []);
+      output = rw z (paste-zero p.bytes.now p.at []);
     }
 
 -- texts that are joined place by place: none, and one more
-pub wrote_first : (f : ℕ → List ℕ) (O : List ℕ) (p : Place) → Wrote O p (joined 0 f) p O
-wrote_first f O p = rw (joined-none f) (wrote_none O p)
+pub wrote_first : (f : ℕ → List ℕ) (p : Output) → Wrote p (joined 0 f) p
+wrote_first f p = rw (joined-none f) (wrote_none p)
 
-pub wrote_more : (f : ℕ → List ℕ) (i : ℕ) {O : List ℕ} {p r : Place} {O' : List ℕ} {s : Place} {O'' : List ℕ}
-    → Wrote O p (joined i f) r O' → Wrote O' r (f i) s O'' → Wrote O p (joined (i + 1) f) s O''
+pub wrote_more : (f : ℕ → List ℕ) (i : ℕ) {p r s : Output} → Wrote p (joined i f) r → Wrote r (f i) s → Wrote p (joined (i + 1) f) s
 wrote_more f i w v = rw (joined_more f i) (w then v)

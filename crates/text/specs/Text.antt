@@ -7,7 +7,7 @@ use Prim.Native.String as string
 use Rattle.std.proofs.Math.Seq.{paste}
 use Rattle.io.specs.Digits.{last_digits}
 use Rattle.wire.specs.Choose.{seek}
-use Rattle.text.specs.declared.Place.{Place}
+use Rattle.text.specs.declared.Output.{Output}
 
 -- the bytes of a quoted text, in ASCII
 abbrev pub text : String → List ℕ
@@ -30,11 +30,13 @@ field n = text " " ++ decimal n
 abbrev pub room : (O : List ℕ) (at : ℕ) (T : List ℕ) → ℕ
 room O at T = min (length O - at) (length T)
 
--- what writing T into O at the place p promises, of the place r that it answers and the output O' that it leaves
-pub record Wrote (O : List ℕ) (p : Place) (T : List ℕ) (r : Place) (O' : List ℕ) : Type 0 where
+-- what writing the text T to the output p promises, of the output r that it leaves
+pub record Wrote (p : Output) (T : List ℕ) (r : Output) : Type 0 where
+  -- it is still the bytes that were lent
+  pub same_reference : r.bytes.ghost_name ≡ p.bytes.ghost_name
   -- the next free byte stands after what had room
-  pub next : r.at ≡ p.at + room O p.at T
+  pub next : r.at ≡ p.at + room p.bytes.now p.at T
   -- all so far had room, T too
-  pub whole : r.whole ≡ p.whole && eqb (room O p.at T) (length T)
+  pub whole : r.whole ≡ p.whole && eqb (room p.bytes.now p.at T) (length T)
   -- as much of T as there is room for stands there, and all else stays
-  pub output : O' ≡ paste O p.at T (room O p.at T)
+  pub output : r.bytes.now ≡ paste p.bytes.now p.at T (room p.bytes.now p.at T)

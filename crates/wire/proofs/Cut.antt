@@ -1,5 +1,5 @@
 -- Laws of a run of records: what its first record takes, and the cut one record at a time.
-use Prim.Native.Nat.{ℕ, zero, suc, ◌+◌, ◌-◌, ◌≤◌, ◌<◌}
+use Prim.Native.Nat.{ℕ, zero, suc, ◌+◌, ◌-◌, ◌≤◌, ◌<◌, min}
 use mathlib.Core.Bool.{Bool, true, false, cond, and-false}
 use mathlib.Core.List.{List, [], ◌∷◌, map}
 use mathlib.Core.Path.{◌≡◌, refl, sym, ap}
@@ -27,6 +27,9 @@ module _ (S : List ℕ) where
   pub first_field : 4 ≤ u16_at S 0 → u16_at S 0 ≤ length S → first_length S ≡ u16_at S 0
   unfolding first_length
   first_field h k = rw (le-leb 4 (u16_at S 0) h, le-leb (u16_at S 0) (length S) k)
+
+  pub first_least : 4 ≤ u16_at S 0 → first_length S ≡ min (u16_at S 0) (length S)
+  first_least h = grind (arith, first_field h, first_past)
 
   -- a record has a byte, and lies within the run
   pub record FirstIn : Type 0 where

@@ -6,8 +6,9 @@ use mathlib.Core.Path.{◌≡◌, refl, sym, ap, ap₂, ◌∙◌}
 use native.Mathlib.Nat.{le_refl, le_trans, eq-or-lt_of_le, add-zero, add-le-add, suc-mul}
 use native.Mathlib.Numerals.{add-one}
 use native.Mathlib.Omega.{arith}
-use lib.ListN.{length, take-append-drop, take, drop, length-append, length-drop, length-take, drop_of_length-le, get_or, set, get_or-append}
+use lib.ListN.{length, take-append-drop, take, drop, length-append, length-drop, length-take, drop_of_length-le, get_or, set, get_or-append, replicate}
 use lib.Seq.{length-take-le, take_all, drop-drop, take-append_seam, drop-append-add, get_or-append-add, get_or-take, get_or-drop, drop-cons, set-append_seam, drop_at, get_or_at}
+use Rattle.std.proofs.lemmas.List.{length-replicate, replicate_more}
 use Rattle.wire.specs.Lists.{joined, table, put, over}
 
 module _ {A : Type 0} where
@@ -35,6 +36,10 @@ module _ {A : Type 0} where
   -- vs written right after what is over the front
   pub put_over : (ws vs xs : List A) (at : ℕ) → at ≡ length ws → put at vs (over ws xs) ≡ over (ws ++ vs) xs
   put_over ws vs xs at e = rw e (simp (take-append_seam, drop-append-add, drop-drop, length-append, append_assoc))
+
+  -- so does what is written next after it, by a call or by a store
+  pub put_next : (ws vs xs : List A) {ys zs : List A} (at : ℕ) → ys ≡ over ws xs → at ≡ length ws → zs ≡ put at vs ys → zs ≡ over (ws ++ vs) xs
+  put_next ws vs xs at e h p = p ∙ ap (put at vs) e ∙ put_over ws vs xs at h
 
   pub length-put : (at : ℕ) (vs xs : List A) → at + length vs ≤ length xs → length (put at vs xs) ≡ length xs
   length-put at vs xs h = simp (length-append, length-take, length-drop) (omega arith)
@@ -135,6 +140,15 @@ module _ {A : Type 0} where
   joined_most zero m f h = zero-le
   joined_most (suc n) m f h = rw (length-append, suc-mul) (add-le-add (joined_most n m f h) (h n))
 
+  -- a table of one value is its copies, also where they fill a list's front
+  pub table-replicate : (n : ℕ) (v : A) → table n (λ i. v) ≡ replicate n v
+  unfolding joined
+  table-replicate zero v = refl
+  table-replicate (suc n) v = rw (table-replicate n v) (replicate_more n v ∙ ap (λ (k : ℕ). replicate k v) (add-one n))
+
+  pub table_filled : (n : ℕ) (v : A) (xs ys : List A) → n ≤ length xs → ys ≡ replicate (length (take n xs)) v → ys ++ drop n xs ≡ over (table n (λ i. v)) xs
+  table_filled n v xs ys h e = rw (e, length-take-le n xs h, table-replicate n v, length-replicate)
+
   -- an element read and written behind what is over the front
   module _ (ws xs : List A) where
     pub over_read : (d : A) → get_or (over ws xs) (length ws) d ≡ get_or xs (length ws) d
@@ -145,6 +159,9 @@ module _ {A : Type 0} where
     pub over_write : (v : A) → length ws < length xs → set (over ws xs) (length ws) v ≡ over (ws ++ v ∷ []) xs
     over_write v h =
         rw (drop-cons xs (length ws) v, set-append_seam, append_assoc, length-append, add-one)
+
+  pub set_next : (ws xs : List A) {ys : List A} (at : ℕ) (v : A) → ys ≡ over ws xs → at ≡ length ws → at < length xs → set ys at v ≡ over (ws ++ v ∷ []) xs
+  set_next ws xs at v e h k = rw (e, h) (over_write ws xs v (rw h at k))
 
   -- an array that is filled from the front, one store a turn
   module _ (f : ℕ → A) where

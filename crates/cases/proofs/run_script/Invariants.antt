@@ -2,5 +2,5 @@
 use Rattle.std.proofs.Common.{length, ◌-◌}
 use Rattle.cases.proofs.run_script.Given as goal
 
-abbrev pub decreases-loop-state : goal.decreases-loop-state
-decreases-loop-state g l = length l.script - l.state.at
+abbrev pub decreases-loop-runner : goal.decreases-loop-runner
+decreases-loop-runner g l = length l.runner.script.now - l.runner.at

@@ -9,7 +9,9 @@ use lib.ListN.{length}
 use borrow.Author.Tests.{eqb-true, not-false}
 use Rattle.wire.proofs.Bools.{and_right}
 use Rattle.wire.proofs.Choose.{choose_first, choose_second, Passed, passed}
+use Rattle.std.proofs.lemmas.Result.{err_from_is_err_and}
 use Rattle.records.specs.Bodies.{length_at}
+use Rattle.refusals.proofs.Causes.{not_0}
 use Rattle.activity.specs.Activity.{is_activity}
 use Rattle.filing.specs.Causes.{due_length, form_causes, field_causes, list_causes}
 use Rattle.filing.specs.Filing.{filing_by}
@@ -30,25 +32,28 @@ code-within R p =
     let both = not-false (eqb (length_at R 0) (due_length R) && eqb (length R) (due_length R)) p.1.1.0 in
     rw (eqb-true (length R) (due_length R) (and_right (eqb (length_at R 0) (due_length R)) (eqb (length R) (due_length R)) both)) (due-most R)
 
-pub returns-then-number-ne0 : goal.returns-then-number-ne0
-returns-then-number-ne0 c = is-refused _ _ _ _ (choose_first _ _ (sym c.form_cause-number.ensures) c.if-number-ne0.true) c.if-number-ne0.true
+pub returns-in_err-check_form : goal.returns-in_err-check_form
+returns-in_err-check_form c =
+    let p = err_from_is_err_and c.from_residual.result c.from_residual.ensures.1 in
+    rw (p.1, p.2) (is-refused _ _ _ _ (choose_first _ _ (sym c.in_err-check_form.ensures) (not_0 _)) (not_0 _))
 
-pub returns-then-field-ne0 : goal.returns-then-field-ne0
-returns-then-field-ne0 c =
+pub returns-in_err-check_fields : goal.returns-in_err-check_fields
+returns-in_err-check_fields c =
     let R = c.args.«record».now in
     let lists = list_causes c.args.schedule.now c.args.l R in
-    let formed = passed (form_causes R) refl (sym c.form_cause-number.ensures ∙ c.if-number-ne0.false) in
-    let first = choose_first (field_causes R) lists (sym c.field_cause-field.ensures) c.if-field-ne0.true in
-    is-refused _ _ _ _ (choose_second (form_causes R) (field_causes R ++ lists) formed ∙ first) c.if-field-ne0.true
+    let formed = passed (form_causes R) refl (sym c.in_ok-check_form.ensures) in
+    let first = choose_first (field_causes R) lists (sym c.in_err-check_fields.ensures) (not_0 _) in
+    let p = err_from_is_err_and c.from_residual-in_err-check_fields.result c.from_residual-in_err-check_fields.ensures.1 in
+    rw (p.1, p.2) (is-refused _ _ _ _ (choose_second (form_causes R) (field_causes R ++ lists) formed ∙ first) (not_0 _))
 
 pub file_listed-requires : goal.file_listed-requires
-file_listed-requires c = code-within _ (passed (form_causes c.args.«record».now) refl (sym c.form_cause-number.ensures ∙ c.if-number-ne0.false))
+file_listed-requires c = code-within _ (passed (form_causes c.args.«record».now) refl (sym c.in_ok-check_form.ensures))
 
 pub returns : goal.returns
 unfolding filing_by
 returns c =
     let R = c.args.«record».now in
     let lists = list_causes c.args.schedule.now c.args.l R in
-    let formed = passed (form_causes R) refl (sym c.form_cause-number.ensures ∙ c.if-number-ne0.false) in
-    let sound = passed (field_causes R) refl (sym c.field_cause-field.ensures ∙ c.if-field-ne0.false) in
+    let formed = passed (form_causes R) refl (sym c.in_ok-check_form.ensures) in
+    let sound = passed (field_causes R) refl (sym c.in_ok-check_fields.ensures) in
     rw (choose_second (form_causes R) (field_causes R ++ lists) formed, choose_second (field_causes R) lists sound) c.file_listed.ensures

@@ -20,36 +20,36 @@ module _ (G R : List ℕ) {t : Taken} (e : t ≡ contract_taken G R) where
   taken : says_listed t ≡ true → cond (is_activity R) (contract_counted G (contract_of R)) true ≡ says_counted t
   taken h = sym (taken_counted G R (ap says_listed (sym e) ∙ h)) ∙ ap says_counted (sym e)
 
-pub returns-then-not-day-days_in : goal.returns-then-not-day-days_in
-returns-then-not-day-days_in c =
-    let past = rw (c.byte_at-day.ensures, c.days_in.ensures) at c.if-not-day-days_in.true in
+pub returns-then-not-has_day : goal.returns-then-not-has_day
+returns-then-not-has_day c =
+    let past = rw c.byte_at-day.ensures at (sym c.has_day.ensures ∙ c.if-not-has_day.true) in
     is-refused _ _ _ _ (chosen (here (ap not past))) (λ z. omega arith)
 
 pub returns-in-Unlisted : goal.returns-in-Unlisted
 returns-in-Unlisted c =
-    let in_month = rw (c.byte_at-day.ensures, c.days_in.ensures) at c.if-not-day-days_in.false in
-    let told = rw c.requires.offset_is at c.in-Unlisted.ensures in
+    let in_month = rw c.byte_at-day.ensures at (sym c.has_day.ensures ∙ c.if-not-has_day.false) in
+    let told = rw c.requires.group_is at c.in-Unlisted.ensures in
     is-refused _ _ _ _ (chosen (next (ap not in_month) (here (listed _ _ told)))) (λ z. omega arith)
 
 pub returns-in-Listed : goal.returns-in-Listed
 returns-in-Listed c =
-    let in_month = rw (c.byte_at-day.ensures, c.days_in.ensures) at c.if-not-day-days_in.false in
-    let told = rw c.requires.offset_is at c.in-Listed.ensures in
+    let in_month = rw c.byte_at-day.ensures at (sym c.has_day.ensures ∙ c.if-not-has_day.false) in
+    let told = rw c.requires.group_is at c.in-Listed.ensures in
     is-outside _ _ _ _ (chosen (next (ap not in_month) (next (listed _ _ told) done))) (rw (taken _ _ told refl, and-false) refl)
 
 pub returns-then-not-in_effect : goal.returns-then-not-in_effect
 returns-then-not-in_effect c =
-    let in_month = rw (c.byte_at-day.ensures, c.days_in.ensures) at c.if-not-day-days_in.false in
-    let told = rw c.requires.offset_is at c.in-Counted.ensures in
+    let in_month = rw c.byte_at-day.ensures at (sym c.has_day.ensures ∙ c.if-not-has_day.false) in
+    let told = rw c.requires.group_is at c.in-Counted.ensures in
     let closed = rw c.byte_at-day.ensures at (sym c.in_effect.ensures ∙ c.if-not-in_effect.true) in
     is-outside _ _ _ _ (chosen (next (ap not in_month) (next (listed _ _ told) done))) (rw closed refl)
 
 pub returns-else-not-in_effect : goal.returns-else-not-in_effect
 returns-else-not-in_effect c =
-    let in_month = rw (c.byte_at-day.ensures, c.days_in.ensures) at c.if-not-day-days_in.false in
-    let told = rw c.requires.offset_is at c.in-Counted.ensures in
+    let in_month = rw c.byte_at-day.ensures at (sym c.has_day.ensures ∙ c.if-not-has_day.false) in
+    let told = rw c.requires.group_is at c.in-Counted.ensures in
     let effective = rw c.byte_at-day.ensures at (sym c.in_effect.ensures ∙ c.if-not-in_effect.false) in
     is-counted _ _ _ _ (chosen (next (ap not in_month) (next (listed _ _ told) done)))
     (rw (effective, taken _ _ told refl) refl)
     c.requires.firm_is
-    c.requires.group_is
+    (ap (λ g. g.index) c.requires.group_is)

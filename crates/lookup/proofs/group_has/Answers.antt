@@ -1,7 +1,6 @@
--- The two tests are the definition's, of the fields that stand there.
-use Rattle.wire.proofs.Choose.{and-all}
+-- The test is the definition's, of the code that stands there.
+use Rattle.std.proofs.Common.{◌∙◌}
 use Rattle.lookup.proofs.group_has.Goals as goal
 
 pub returns : goal.returns
-returns c =
-    rw (rw c.rest_at.ensures at c.group_fields-g.ensures) (and-all _ _)
+returns c = c.eq.ensures ∙ rw (c.group_fields.ensures, c.rest_at.ensures)

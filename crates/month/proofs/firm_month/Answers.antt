@@ -1,34 +1,49 @@
--- Refusals 1 to 8 are those of the check, and an unlisted firm is 21. A listed firm has one place, which fits a byte, and the rest is its month.
-use Prim.Native.Nat.{◌<◌}
-use mathlib.Core.Path.{sym, ap, ◌∙◌}
-use native.Mathlib.Nat.{lt_trans}
-use native.Mathlib.Omega.{arith}
-use Rattle.schedule.specs.Check.{check_meaning}
-use Rattle.lookup.specs.Lookup.{firm_listed, firm_meaning}
+-- Refusals 1 to 8 are those of the check, and an unlisted firm is 21. A listed firm has one place, which fits a byte; then 22 is asked, and the rest is
+-- its month.
+use Rattle.std.proofs.Common.{◌<◌, sym, ◌∙◌, lt_trans, arith}
+use Rattle.std.proofs.lemmas.Result.{err_from_is_err_and}
+use Rattle.lookup.specs.Lookup.{firm_listed}
 use Rattle.schedule.proofs.Good.{good-schedule}
 use Rattle.lookup.proofs.Laws.{firm-found, firm_unlisted}
 use Rattle.book.proofs.Checked.{sized}
-use Rattle.month.proofs.Answers.{is-refused, is_21}
+use Rattle.month.specs.Parts.{ListedAt}
+use Rattle.month.proofs.Answers.{is-refused, is_21, is_22, held-month}
 use Rattle.month.proofs.firm_month.Goals as goal
 
-pub refused_month-requires : goal.refused_month-requires
-refused_month-requires c = is-refused _ _ _ (sym c.check_book.ensures ∙ ap check_meaning c.in-Refused.is)
+pub returns-in_err-layout : goal.returns-in_err-layout
+returns-in_err-layout c =
+    let p = err_from_is_err_and c.from_residual.result c.from_residual.ensures.1 in
+    rw (p.1, p.2) (record { answer = sym (is-refused _ _ _ (sym c.in_err-layout.ensures)); held = tt })
 
-pub refused_month-requires-in-Nothing : goal.refused_month-requires-in-Nothing
-refused_month-requires-in-Nothing c =
-    let holds = sym c.check_book.ensures ∙ ap check_meaning c.in-Good.is in
-    is_21 _ _ _ holds (firm_unlisted _ _ _ (sym (ap firm_meaning c.in-Nothing.is) ∙ c.find_firm.ensures))
+pub returns-in_default : goal.returns-in_default
+returns-in_default c =
+    record { answer = rw c.from.ensures (sym (is_21 _ _ _ (sym c.in_ok-layout.ensures) (firm_unlisted _ _ _ c.in_default.ensures))); held = tt }
 
-pub overflow_cast-f : goal.overflow_cast-f
-overflow_cast-f c =
-    let holds = sym c.check_book.ensures ∙ ap check_meaning c.in-Good.is in
-    let f = firm-found _ _ _ (sym (ap firm_meaning c.in-At.is) ∙ c.find_firm.ensures) in
-    let most : c.in-Good.l.firms < 256 = omega (arith, (good-schedule _ (sized _ _ holds).schedule).few_firms) in
+pub overflow_cast-firm : goal.overflow_cast-firm
+overflow_cast-firm c =
+    let f = firm-found _ _ _ c.in-Some.ensures in
+    let most : c.in_ok-layout.layout.firms < 256 = omega (arith, (good-schedule _ (sized _ _ (sym c.in_ok-layout.ensures)).schedule).few_firms) in
     record { fits = lt_trans f.inside most }
 
-pub listed_month-requires : goal.listed_month-requires
+pub returns-then-has_excess : goal.returns-then-has_excess
 unfolding firm_listed
-listed_month-requires c =
-    let holds = sym c.check_book.ensures ∙ ap check_meaning c.in-Good.is in
-    let f = firm-found _ _ _ (sym (ap firm_meaning c.in-At.is) ∙ c.find_firm.ensures) in
-    record { checked = holds; listed = f.listed; place = sym f.first }
+returns-then-has_excess c =
+    let f = firm-found _ _ _ c.in-Some.ensures in
+    let at : ListedAt c.args.schedule.now c.in_ok-layout.layout c.args.book.now c.args.code.now c.in-Some.place
+    = record { checked = sym c.in_ok-layout.ensures; listed = f.listed; place = sym f.first } in
+    record { answer = rw c.from-then-has_excess.ensures (sym (is_22 _ _ _ _ _ at (sym c.has_excess.ensures ∙ c.if-has_excess.true))); held = tt }
+
+pub returns : goal.returns
+unfolding firm_listed
+returns c =
+    let f = firm-found _ _ _ c.in-Some.ensures in
+    let at : ListedAt c.args.schedule.now c.in_ok-layout.layout c.args.book.now c.args.code.now c.in-Some.place
+    = record { checked = sym c.in_ok-layout.ensures; listed = f.listed; place = sym f.first } in
+    held-month at (sym c.has_excess.ensures ∙ c.if-has_excess.false) c.judged_month.ensures
+
+pub invariant_of-judged_month : goal.invariant_of-judged_month
+invariant_of-judged_month c =
+    record {
+      stand = c.group_starts-starts.ensures;
+      sound = record { checked = (sized _ _ (sym c.in_ok-layout.ensures)).schedule; within = sym c.has_excess.ensures ∙ c.if-has_excess.false };
+    }

@@ -1,12 +1,9 @@
--- Inside the slice the sum is the definition's, byte by byte; past the end both bytes are zeros.
-use Rattle.std.proofs.Common.{rules, sym}
+-- The definition's sum is that of two bytes that stand one after the other.
+use Rattle.std.proofs.Common.{◌∙◌, add-zero, arith}
 use Rattle.wire.specs.Bytes.{u16_at}
-use Rattle.wire.proofs.Bytes.{u16_past}
+use Rattle.wire.specs.Lists.{joined}
 use Rattle.wire.proofs.u16_at.Goals as goal
 
-pub returns-then-s-at : goal.returns-then-s-at
-returns-then-s-at c = sym (u16_past _ _ c.if-s-at.true)
-
 pub returns : goal.returns
-unfolding u16_at
-returns c = search rules
+unfolding u16_at joined
+returns c = c.from_le_bytes.ensures ∙ rw (c.bytes_at.ensures, add-zero) (omega arith)

@@ -10,12 +10,12 @@ use Rattle.book.specs.Book.{cells}
 use Rattle.book.proofs.cells.cell_in.Goals as goal
 
 pub returns-then-not-group-groups : goal.returns-then-not-group-groups
-returns-then-not-group-groups c = rw (cells, c.if-not-group-groups.true)
+returns-then-not-group-groups c = rw (cells, rw c.within.ensures at c.if-not-group-groups.true)
 
 pub cell_index-requires : goal.cell_index-requires
 cell_index-requires c =
     let a = c.args in
-    let d = range 1 31 a.day (and_right (ltb a.group a.groups) (within 1 31 a.day) c.if-not-group-groups.false) in
+    let d = range 1 31 a.day (and_right (ltb a.group a.groups) (within 1 31 a.day) (rw c.within.ensures at c.if-not-group-groups.false)) in
     search rules
 
 pub cell_at-requires : goal.cell_at-requires
@@ -26,4 +26,4 @@ cell_at-requires c =
     rw c.cell_index.ensures (omega (arith, mul-le-mul f g))
 
 pub returns : goal.returns
-returns c = rw (cells, c.if-not-group-groups.false, ← c.cell_index.ensures) c.cell_at.ensures
+returns c = rw (cells, rw c.within.ensures at c.if-not-group-groups.false, ← c.cell_index.ensures) c.cell_at.ensures

@@ -1,9 +1,7 @@
 -- Each way that the schedule takes a record is one of the answers; a record that is counted has its cell inside the book.
-use Prim.Native.Nat.{ℕ, ◌≤◌}
-use mathlib.Core.List.{List}
-use mathlib.Core.Path.{◌≡◌, refl, sym, ap, ◌∙◌}
-use native.Mathlib.Omega.{arith}
-use borrow.Author.Rules.{rules}
+use Rattle.std.proofs.Common.{◌≡◌, ℕ, ◌≤◌, List, refl, sym, ap, ◌∙◌, arith, rules}
+use Rattle.std.specs.Prelude.{Ok}
+use Rattle.std.proofs.lemmas.Result.{err_from_is_err_and}
 use Rattle.wire.proofs.Choose.{passed}
 use Rattle.filing.specs.Causes.{record_causes}
 use Rattle.filing.specs.Filing.{filed_meaning, filing_of}
@@ -18,9 +16,9 @@ use Rattle.book.proofs.Answers.{stopped, passed_over, goes_in}
 use Rattle.book.proofs.posting.post_checked.Goals as goal
 
 -- a counted record has a firm and a group, and passed 11 to 17 and 31
-module _ (S : List ℕ) (l : Layout) (R : List ℕ) {t : Filed} {f g : ℕ} (known : filed_meaning t ≡ filing_of S l R) (at : t ≡ filed.At f g) where
+module _ (S : List ℕ) (l : Layout) (R : List ℕ) {t : Filed} {f g : ℕ} (known : filed_meaning (Ok t) ≡ filing_of S l R) (at : t ≡ filed.At f g) where
   placed : Located S l R (record_causes S l R) f g
-  placed = told _ _ _ _ (sym (ap filed_meaning at) ∙ known)
+  placed = told _ _ _ _ (sym (ap (λ x. filed_meaning (Ok x)) at) ∙ known)
 
   passes : Admitted S l R
   passes = admitted _ _ _ (passed _ refl placed.passing.none)
@@ -34,24 +32,31 @@ cell_index-at-requires c =
     let a = c.args in
     let f : a.l.firms ≤ 255 = search rules in
     let g : a.l.groups ≤ 255 = search rules in
-    let here = placed _ _ _ c.file.ensures c.in-At.is in
-    let p = passes _ _ _ c.file.ensures c.in-At.is in
+    let known = sym (ap filed_meaning c.in_ok-file.was) ∙ c.file.ensures in
+    let here = placed _ _ _ known c.in-At.is in
+    let p = passes _ _ _ known c.in-At.is in
     (omega (arith, here.firm, p.firm), omega (arith, here.group, p.placed.group), omega (arith, c.byte_at.ensures, p.placed.first))
 
 pub enter-requires : goal.enter-requires
 enter-requires c =
-    let here = placed _ _ _ c.file.ensures c.in-At.is in
-    let p = passes _ _ _ c.file.ensures c.in-At.is in
+    let known = sym (ap filed_meaning c.in_ok-file.was) ∙ c.file.ensures in
+    let here = placed _ _ _ known c.in-At.is in
+    let p = passes _ _ _ known c.in-At.is in
     rw (c.cell_index-at.ensures ∙ index_same _ here.firm here.group c.byte_at.ensures)
     (omega (arith, admitted_inside _ _ _ p, (sized _ _ c.requires).room))
 
-pub returns-in-Refused : goal.returns-in-Refused
-returns-in-Refused c = stopped _ _ _ c.requires (told _ _ _ _ (sym (ap filed_meaning c.in-Refused.is) ∙ c.file.ensures))
+pub returns-in_err-file : goal.returns-in_err-file
+returns-in_err-file c =
+    let p = err_from_is_err_and c.from_residual.result c.from_residual.ensures.1 in
+    rw (p.1, p.2) (stopped _ _ _ c.requires (told _ _ _ _ c.in_err-file.ensures))
 
 pub returns-in-Outside : goal.returns-in-Outside
-returns-in-Outside c = passed_over _ _ _ c.requires (told _ _ _ _ (sym (ap filed_meaning c.in-Outside.is) ∙ c.file.ensures))
+returns-in-Outside c =
+    let known = sym (ap filed_meaning c.in_ok-file.was) ∙ c.file.ensures in
+    passed_over _ _ _ c.requires (told _ _ _ _ (sym (ap (λ x. filed_meaning (Ok x)) c.in-Outside.is) ∙ known))
 
 pub returns-in-At : goal.returns-in-At
 returns-in-At c =
-    let here = placed _ _ _ c.file.ensures c.in-At.is in
+    let known = sym (ap filed_meaning c.in_ok-file.was) ∙ c.file.ensures in
+    let here = placed _ _ _ known c.in-At.is in
     goes_in _ _ _ c.requires here.passing (c.cell_index-at.ensures ∙ index_same _ here.firm here.group c.byte_at.ensures) c.enter.ensures

@@ -1,17 +1,12 @@
 -- Both numbers are the counts over the places passed: a turn adds 1 to each where the definition's test holds at its place.
-use Prim.Native.Nat.{◌-◌, ◌≤◌}
-use mathlib.Core.Path.{◌≡◌}
+use Rattle.std.proofs.Common.{◌≡◌}
 use Rattle.wire.specs.Sums.{count}
 use Rattle.contracts.specs.Counted.{in_front, is_late}
 use Rattle.contracts.proofs.counted.passed_before.Given as goal
 
 abbrev pub invariant-loop-i : goal.invariant-loop-i
 invariant-loop-i l =
-    (l.i ≤ l.n)
-    × (l.front ≤ l.i)
-    × (l.extra ≤ l.i)
-    × (l.front ≡ count l.i (in_front l.body))
-    × (l.extra ≡ count l.i (is_late l.body))
-
-abbrev pub decreases-loop-i : goal.decreases-loop-i
-decreases-loop-i l = l.n - l.i
+    record {
+      front : l.front ≡ count l.i (in_front l.body);
+      extra : l.extra ≡ count l.i (is_late l.body);
+    }

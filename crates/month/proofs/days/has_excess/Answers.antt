@@ -2,7 +2,6 @@
 use Prim.Native.Nat.{ℕ, ◌+◌, ◌≤◌, ◌<◌}
 use mathlib.Core.Bool.{Bool, true, false}
 use mathlib.Core.Path.{◌≡◌, sym, ◌∙◌}
-use borrow.Author.Rules.{rules}
 use borrow.Author.Tests.{lt-ltb, le-ltb}
 use Rattle.wire.specs.Choose.{seek, some}
 use Rattle.wire.proofs.Choose.{seek_hit, seek-next, seek_end}
@@ -23,12 +22,11 @@ module _ (p : ℕ → Bool) (i : ℕ) (v : seek 0 places p ≡ seek i places p) 
 
 pub returns-then-excess_at : goal.returns-then-excess_at
 unfolding any_excess
-returns-then-excess_at c = stops _ _ c.loop-i.invariant.1 c.loop-i-test.true c.excess_at.ensures c.if-excess_at.true
+returns-then-excess_at c = stops _ _ c.loop-i.invariant c.loop-i-test.true c.excess_at.ensures c.if-excess_at.true
 
 pub loop-i-preserved : goal.loop-i-preserved
-loop-i-preserved c =
-    (search rules, goes _ _ c.loop-i.invariant.1 c.loop-i-test.true c.excess_at.ensures c.if-excess_at.false)
+loop-i-preserved c = goes _ _ c.loop-i.invariant c.loop-i-test.true c.excess_at.ensures c.if-excess_at.false
 
 pub returns : goal.returns
 unfolding any_excess
-returns c = ends _ _ c.loop-i.invariant.1 c.loop-i-test.false
+returns c = ends _ _ c.loop-i.invariant c.loop-i-test.false

@@ -3,7 +3,6 @@ use mathlib.Core.Path.{◌≡◌, refl, ◌∙◌}
 use native.Mathlib.Omega.{arith}
 use lib.Dec.{eqb}
 use lib.ListN.{length, get_or}
-use borrow.Author.Rules.{rules}
 use Rattle.wire.proofs.Lists.{joined-none, table_read, table_write, table_done}
 use Rattle.wire.proofs.Sums.{bit_in, sum-none, sum_more, count_most}
 use Rattle.rules.specs.Marks.{places, Judged, left as left_in, mark}
@@ -22,23 +21,23 @@ loop-i-preserved c =
     let v = c.loop-i.invariant in
     let i = c.loop-i.i in
     let j : Judged = held a.marks a.exempts.now a.groupings.now in
-    let read : get_or c.loop-i.marks i 0 ≡ get_or a.marks i 0 = rw v.1 (table_read (mark a.p j) i a.marks 0) in
+    let read : get_or c.loop-i.marks i 0 ≡ get_or a.marks i 0 = rw v.marked (table_read (mark a.p j) i a.marks 0) in
     let long : length a.marks ≡ places = omega arith in
     let given : c.mark_of.result ≡ mark a.p j i
-    = rw (c.mark_of.ensures, read, c.count_in-before.ensures, v.2, v.3) (mark_by a.p j i (c.requires i c.loop-i-test.true)) in (
-      search rules,
-      rw v.1 (table_write (mark a.p j) i c.mark_of.result a.marks (omega (arith, long)) given),
-      rw (c.with_count-left.ensures.0, v.2, c.bit.ensures.0, read, sum_more, bit_in (eqb (j.grouping i) 1)),
-      rw (c.with_count-left.ensures.1, v.3, c.bit.ensures.0, read, sum_more, bit_in (eqb (j.grouping i) 2)),
-    )
+    = rw (c.mark_of.ensures, read, c.count_in-before.ensures, v.first, v.second) (mark_by a.p j i (c.requires i c.loop-i-test.true)) in
+    record {
+      marked = rw v.marked (table_write (mark a.p j) i c.mark_of.result a.marks (omega (arith, long)) given);
+      first = rw (c.with_count-left.ensures.0, v.first, c.bit.ensures.0, read, sum_more, bit_in (eqb (j.grouping i) 1));
+      second = rw (c.with_count-left.ensures.1, v.second, c.bit.ensures.0, read, sum_more, bit_in (eqb (j.grouping i) 2));
+    }
 
 pub returns : goal.returns
 returns c =
     let a = c.args in
     let e : c.loop-i.i ≡ places = omega arith in
     let long : length a.marks ≡ places = omega arith in
-    rw e at c.loop-i.invariant.1
+    rw e at c.loop-i.invariant.marked
     ∙ table_done (mark a.p (held a.marks a.exempts.now a.groupings.now)) places a.marks long
 
 pub loop-i-init : goal.loop-i-init
-loop-i-init c = rw (joined-none, sum-none, sum-none) (omega arith, refl, refl, refl)
+loop-i-init c = rw (joined-none, sum-none, sum-none) (record { marked = refl; first = refl; second = refl })

@@ -1,17 +1,7 @@
--- The bytes from four past the place on, and none where that is past the end.
-use Prim.Native.Nat.{◌+◌, min}
-use mathlib.Core.Path.{◌≡◌, ◌∙◌}
-use native.Mathlib.Omega.{arith}
-use lib.ListN.{length}
-use Rattle.wire.proofs.Lists.{part_lent}
-use Rattle.records.proofs.Parts.{rest_from}
+-- Four bytes behind the place, and the place's own before them, are left out together.
+use Rattle.std.proofs.Common.{◌∙◌, ap, drop}
+use Rattle.std.proofs.lemmas.List.{drop-drop}
 use Rattle.records.proofs.bodies.rest_at.Goals as goal
 
 pub returns : goal.returns
-returns c =
-    let a = c.args in
-    let first = c.least-from in
-    let more = c.least in
-    let S = a.s.now in
-    let start : first.result + more.result ≡ min (a.at + 4) (length S) = omega (arith, first.ensures, more.ensures) in
-    part_lent (first.result + more.result) S ∙ rest_from S a.at (first.result + more.result) start
+returns c = c.tail-2.ensures ∙ ap (drop 4) c.tail.ensures ∙ drop-drop 4 c.args.at c.args.s.now

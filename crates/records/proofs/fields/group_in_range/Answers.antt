@@ -7,13 +7,12 @@ use Rattle.wire.proofs.Choose.{and-all}
 use Rattle.records.specs.Fields.{group_in_range}
 use Rattle.records.proofs.fields.group_in_range.Goals as goal
 
--- seven tests joined are those that they equal
-joined : {a b c d e f g a' b' c' d' e' f' g' : Bool} → a ≡ a' → b ≡ b' → c ≡ c' → d ≡ d' → e ≡ e' → f ≡ f' → g ≡ g'
-    → foldl ◌&&◌ a (b ∷ c ∷ d ∷ e ∷ f ∷ g ∷ []) ≡ all (a' ∷ b' ∷ c' ∷ d' ∷ e' ∷ f' ∷ g' ∷ [])
-joined p q r s t u v = rw (p, q, r, s, t, u, v) (and-all _ _)
+-- six tests joined are those that they equal
+joined : {a b c d e f a' b' c' d' e' f' : Bool} → a ≡ a' → b ≡ b' → c ≡ c' → d ≡ d' → e ≡ e' → f ≡ f'
+    → foldl ◌&&◌ a (b ∷ c ∷ d ∷ e ∷ f ∷ []) ≡ all (a' ∷ b' ∷ c' ∷ d' ∷ e' ∷ f' ∷ [])
+joined p q r s t u = rw (p, q, r, s, t, u) (and-all _ _)
 
 pub returns : goal.returns
 unfolding group_in_range
 returns c =
-    joined c.is_letter.ensures c.is_letter-2.ensures c.within.ensures
-    c.within-2.ensures c.is_benchmark.ensures c.within-3.ensures c.within-4.ensures
+    joined c.are_letters.ensures c.within.ensures c.within-2.ensures c.is_benchmark.ensures c.within-3.ensures c.within-4.ensures

@@ -2,7 +2,7 @@
 use Prim.Native.Nat.{◌-◌}
 use Rattle.wire.proofs.Lists.{part_lent}
 use Rattle.statement.specs.Layout.{totals_size, both_totals}
-use Rattle.text.proofs.Writing.{wrote_length, ◌then◌}
+use Rattle.text.proofs.Writing.{◌then◌}
 use Rattle.report.specs.Report.{statement_lines}
 use Rattle.report.proofs.firms.put_statement.Goals as goal
 
@@ -12,9 +12,4 @@ returns c =
     let a = c.args in
     let first-at = part_lent (a.bytes - both_totals) a.records.now in
     let second_at = part_lent (a.bytes - totals_size) a.records.now in
-    c.put_violations-after_violations.ensures
-    then (rw first-at at c.put_totals-after_first.ensures)
-    then (rw second_at at c.put_totals.ensures)
-
-pub shape_of-out : goal.shape_of-out
-shape_of-out c = wrote_length (returns c)
+    c.put_violations.ensures then (rw first-at at c.put_totals.ensures) then (rw second_at at c.put_totals-2.ensures)

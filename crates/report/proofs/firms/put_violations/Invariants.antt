@@ -1,5 +1,5 @@
 -- Before each turn the lines of the violations so far are written, and the turn writes the next one, from the part of the statement that starts at it.
-use Prim.Native.Nat.{◌-◌, ◌*◌, ◌≤◌}
+use Prim.Native.Nat.{◌*◌}
 use lib.ListN.{drop}
 use Rattle.wire.specs.Lists.{joined}
 use Rattle.statement.specs.Layout.{line_size}
@@ -8,7 +8,4 @@ use Rattle.text.specs.Lines.{violation_line}
 use Rattle.report.proofs.firms.put_violations.Given as goal
 
 abbrev pub invariant-loop-i : goal.invariant-loop-i
-invariant-loop-i l = Wrote l.initial.out l.initial.next (joined l.i (λ k. violation_line l.code (drop (line_size * k) l.records))) l.next l.out × l.i ≤ l.n
-
-abbrev pub decreases-loop-i : goal.decreases-loop-i
-decreases-loop-i l = l.n - l.i
+invariant-loop-i l = Wrote l.initial.out (joined l.i (λ k. violation_line l.code (drop (line_size * k) l.records))) l.out

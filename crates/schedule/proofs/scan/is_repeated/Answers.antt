@@ -1,4 +1,7 @@
--- Each kind has its row of the definition, with the code that its body holds.
+-- Each kind has its row of the definition, with the code that its body holds; what is searched for is found exactly where it is listed.
+use Rattle.std.proofs.Common.{◌∙◌, ap, is_some}
+use Rattle.lookup.specs.Lookup.{group_found, firm_found}
+use Rattle.lookup.proofs.Laws.{some-found}
 use Rattle.schedule.specs.Check.{is_repeated}
 use Rattle.schedule.proofs.scan.is_repeated.Goals as goal
 
@@ -7,12 +10,12 @@ unfolding is_repeated
 returns-in-Head c = rw c.in-Head.is
 
 pub returns-in-Group : goal.returns-in-Group
-unfolding is_repeated
-returns-in-Group c = rw (c.in-Group.is, ← c.group_fields-g.ensures) c.group_listed.ensures
+unfolding is_repeated group_found
+returns-in-Group c = rw (c.in-Group.is, ← c.group_fields.ensures) (c.is_some.ensures ∙ ap is_some c.find_group.ensures ∙ some-found _ _)
 
 pub returns-in-Firm : goal.returns-in-Firm
-unfolding is_repeated
-returns-in-Firm c = rw c.in-Firm.is c.firm_listed.ensures
+unfolding is_repeated firm_found
+returns-in-Firm c = rw c.in-Firm.is (c.is_some-in-Firm.ensures ∙ ap is_some c.find_firm.ensures ∙ some-found _ _)
 
 pub returns-in-Other : goal.returns-in-Other
 unfolding is_repeated

@@ -3,4 +3,4 @@ use Rattle.schedule.proofs.scan.next_record.Goals as goal
 
 pub returns : goal.returns
 returns c =
-    rw (c.with_record-held.ensures, c.kind_of-kind.ensures, c.u16_at-2.ensures, c.u16_at.ensures, c.body_at.ensures)
+    rw (c.with_record-held.ensures, c.from-kind.ensures, c.u16_at-2.ensures, c.u16_at.ensures, c.body_at.ensures)

@@ -1,19 +1,14 @@
--- At each turn the digest so far, with the numbers that are left taken into it, is the digest of them all.
-use Rattle.std.proofs.Common.{◌<◌, length, arith, sym, add-one, drop-cons}
-use Rattle.std.proofs.Math.ListN.{drop_of_length-le}
-use Rattle.script.specs.Digest.{digest_of}
+-- The library's fold takes the numbers in one after the other, as the definition does.
+use Rattle.std.proofs.Common.{ℕ, ◌≡◌, ◌+◌, ◌*◌, ◌%◌, List, [], ◌∷◌, fold, refl, ◌∙◌, rules}
+use Rattle.script.specs.Digest.{modulus, digest_of}
 use Rattle.script.proofs.digest.digest_of.Goals as goal
 
-pub loop-i-preserved : goal.loop-i-preserved
+by-fold : (d : ℕ) (ns : List ℕ) → fold (λ d n. (31 * d + n) % modulus) d ns ≡ digest_of d ns
 unfolding digest_of
-loop-i-preserved c =
-    let l = c.loop-i in
-    let b = c.args.book.now in
-    let more : l.i < length b = omega arith in
-    (omega arith, rw (c.with_number-digest.ensures, add-one) (rw (drop-cons b l.i 0) at l.invariant.1))
+by-fold d [] = refl
+by-fold d (n ∷ ns) = by-fold ((31 * d + n) % modulus) ns
 
 pub returns : goal.returns
-unfolding digest_of
 returns c =
-    let l = c.loop-i in
-    sym (rw (drop_of_length-le c.args.book.now {i = l.i} (omega arith)) at l.invariant.1)
+    let folded : c.fold.result ≡ fold (λ d n. (31 * d + n) % modulus) 0 c.args.book.now = search rules in
+    folded ∙ by-fold 0 _

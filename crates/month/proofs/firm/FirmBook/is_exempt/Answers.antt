@@ -1,0 +1,35 @@
+-- There is a verdict on the sums of the counted days, and the month is exempt where its code is no violation; past the last group
+-- nothing is counted.
+use mathlib.Core.Bool.{not}
+use mathlib.Core.Path.{sym, ap, ap₂, ◌∙◌}
+use Rattle.rules.specs.Month.{DailyTotals}
+use Rattle.rules.specs.Verdict.{is_violation, days_verdict}
+use Rattle.schedule.proofs.Found.{group-listed}
+use Rattle.book.specs.Book.{totals_in}
+use Rattle.month.specs.Month.{terms}
+use Rattle.month.specs.Parts.{sums_to, verdict_in}
+use Rattle.month.specs.declared.days.MonthSums.{MonthSums}
+use Rattle.month.proofs.Exempt.{counted_fits, exempt_verdict, exempt_past}
+use Rattle.month.proofs.firm.FirmBook.is_exempt.Goals as goal
+
+pub returns-then-self-g : goal.returns-then-self-g
+returns-then-self-g c =
+    let s = c.args.self.now in
+    sym (exempt_past s.schedule.now s.layout s.book.now s.firm c.args.g c.if-self-g.true)
+
+pub returns : goal.returns
+unfolding sums_to
+returns c =
+    let s = c.args.self.now in
+    let g = c.args.g in
+    let t = terms s.schedule.now s.layout in
+    let traffic : DailyTotals = totals_in s.layout.groups s.book.now s.firm in
+    let fit = counted_fits s.schedule.now s.book.now s.firm s.sound g c.requires in
+    -- the verdict is that on the group's sums
+    let decided = ap verdict_in c.days_verdict.ensures
+    ∙ ap₂ (λ (s : MonthSums) B. verdict_in (days_verdict s.days (record { raw = s.raw; score = s.score; lots = s.lots }) B))
+    c.month_sums-s.ensures (ap (λ g. g.benchmark) c.group-benchmark.ensures) in
+    let benchmark = (group-listed s.schedule.now s.sound.checked g c.if-self-g.false).benchmark in
+    ap not (c.is_violation.ensures ∙ ap (λ v. is_violation v.code) c.verdict_of.ensures)
+    ∙ ap (λ v. not (is_violation v.code)) decided
+    ∙ sym (exempt_verdict t traffic g fit benchmark)

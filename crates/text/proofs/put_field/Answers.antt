@@ -1,7 +1,0 @@
--- The number stands right after the space.
-use Rattle.text.proofs.Writing.{◌then◌}
-use Rattle.text.proofs.put_field.Goals as goal
-
-pub returns : goal.returns
-returns c =
-    c.put-after_space.ensures then c.put_decimal.ensures
