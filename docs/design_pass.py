@@ -65,10 +65,12 @@ def grep(texts, pattern):
     return [f"{n}: {line.strip()}" for n, t in texts.items() for line in t.split("\n") if re.search(pattern, line)]
 
 
-def plain(body):
-    """A body with its types, numbers and constants taken out."""
+def plain(body, params):
+    """A body with its parameters' names, types, numbers and constants taken out."""
+    for i, param in enumerate(split_params(params)):
+        body = re.sub(rf"(?<![.\w]){re.escape(param.split(':')[0].replace('mut ', '').strip())}\b", f"_{i}", body)
     body = re.sub(rf"\b{NUMBERS}\b|\b\d[\d_]*\b|\b[A-Z][A-Z_0-9]+\b|'.'", "#", body)
-    return re.sub(r"\s+", " ", body).strip()
+    return re.sub(r"\s+", "", body)
 
 
 def points(commit):
@@ -84,9 +86,9 @@ def points(commit):
     found = {n: "\n".join(line for line in t.split("\n") if not re.match(table, line)) for n, t in src.items()}
     yield "1 numbers for kinds, causes, codes, marks", grep(found, numbers)
     same = collections.defaultdict(list)
-    for n, f, _, _, body in fns:
-        if len(body.split()) >= 3:
-            same[plain(body)].append(f"{n}: {f}")
+    for n, f, params, _, body in fns:
+        if len(plain(body, params)) > 12:
+            same[plain(body, params)].append(f"{n}: {f}")
     yield "2 functions with one body but for types and numbers", [" = ".join(v) for v in same.values() if len(v) > 1]
     yield "3 loops that count by hand", [f"{n}: {f}" for n, f, _, _, b in fns if re.search(r"\b(while|loop)\b", b)]
     yield "3 for loops over indices", grep(src, r"for \w+ in [\w.()]+\.\.")
