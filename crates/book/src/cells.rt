@@ -24,12 +24,12 @@ pub(crate) fn book_size(l: Layout) -> usize
 }
 
 // Where a cell's numbers start: firm and group counted from 0, the day from 1.
-pub(crate) fn cell_index(groups: u8, firm: usize, group: usize, day: u8) -> usize
-    requires { (firm < 256) × (group < 256) × (1 ≤ day) }
+pub(crate) fn cell_index(groups: u8, firm: u8, group: u8, day: u8) -> usize
+    requires { 1 ≤ day }
     ensures { result ≡ index groups firm group day }
 {
-    let row = firm * (groups as usize) + group;
-    (row * 31 + (day as usize) - 1) * WIDTH
+    let row = usize::from(firm) * usize::from(groups) + usize::from(group);
+    (row * 31 + usize::from(day) - 1) * WIDTH
 }
 
 // A number of the book, 0 past its end.
@@ -72,7 +72,7 @@ pub fn cell_in(book: &[u64], groups: u8, firm: u8, group: u8, day: u8) -> Cell
     if !((group < groups) & within(1, 31, day as u32)) {
         return EMPTY;
     }
-    cell_at(book, cell_index(groups, firm as usize, group as usize, day))
+    cell_at(book, cell_index(groups, firm, group, day))
 }
 
 // Stores a cell at a place.

@@ -8,7 +8,7 @@ use crate::cells::{cell_at, cell_index, check_book, store_cell};
 use activity::DAY;
 use cell::entry_of;
 use filing::{Filed, file};
-use lookup::Layout;
+use lookup::Schedule;
 use refusals::{Cause, Refusal};
 use wire::byte_at;
 
@@ -30,19 +30,14 @@ fn enter(book: &mut [u64], at: usize, record: &[u8]) -> Result<Effect, Cause>
 }
 
 // A post to a book that has the numbers that the schedule asks for.
-fn post_checked(
-    schedule: &[u8],
-    l: Layout,
-    book: &mut [u64],
-    record: &[u8],
-) -> Result<Effect, Cause>
-    requires { check_book schedule.now (length book.old) ≡ good l }
-    ensures { PostIs schedule.now book.old «record».now (outcome_at_front result) book.new }
+fn post_checked(schedule: &Schedule, book: &mut [u64], record: &[u8]) -> Result<Effect, Cause>
+    requires { check_book schedule.now.bytes.now (length book.old) ≡ good schedule.now.layout }
+    ensures { PostIs schedule.now.bytes.now book.old «record».now (outcome_at_front result) book.new }
 {
-    match file(schedule, l, record)? {
+    match file(schedule, record)? {
         Filed::Outside => Ok(Effect::Outside),
         Filed::At { firm, group } => {
-            let at = cell_index(l.groups, firm, group, byte_at(record, DAY));
+            let at = cell_index(schedule.layout.groups, firm, group, byte_at(record, DAY));
             enter(book, at, record)
         }
     }
@@ -53,6 +48,10 @@ fn post_checked(
 pub fn post(schedule: &[u8], book: &mut [u64], record: &[u8]) -> Result<Effect, Refusal>
     ensures { PostIs schedule.now book.old «record».now (outcome result) book.new }
 {
-    let l = check_book(schedule, book.len())?;
-    Ok(post_checked(schedule, l, book, record)?)
+    let layout = check_book(schedule, book.len())?;
+    let schedule = Schedule {
+        bytes: schedule,
+        layout,
+    };
+    Ok(post_checked(&schedule, book, record)?)
 }

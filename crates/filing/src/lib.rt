@@ -15,7 +15,7 @@ use activity::{
 };
 use calendar::{has_day, in_effect};
 use contracts::{Status, contract_status};
-use lookup::{GroupPlace, Layout, find_firm, find_group};
+use lookup::{GroupPlace, Schedule};
 use records::body_at;
 use refusals::Cause;
 use wire::{byte_at, bytes_at, u16_at};
@@ -24,7 +24,7 @@ use wire::{byte_at, bytes_at, u16_at};
 #[derive(Clone, Copy, Debug, PartialEq, Eq)]
 pub enum Filed {
     Outside,
-    At { firm: usize, group: usize },
+    At { firm: u8, group: u8 },
 }
 
 // The length of a record of this one's kind.
@@ -66,35 +66,34 @@ fn check_fields(record: &[u8]) -> Result<(), Cause>
 }
 
 // How the group whose record stands at a place takes a posted record's contract.
-fn status_at(schedule: &[u8], at: usize, record: &[u8]) -> Status
-    ensures { status_meaning result ≡ contract_taken (body_at schedule.now at) «record».now }
+fn status_at(schedule: &Schedule, at: usize, record: &[u8]) -> Status
+    ensures { status_meaning result ≡ contract_taken (body_at schedule.now.bytes.now at) «record».now }
 {
     if is_activity(record) {
-        return contract_status(body_at(schedule, at), u16_at(record, CONTRACT));
+        return contract_status(body_at(schedule.bytes, at), u16_at(record, CONTRACT));
     }
     Status::Counted
 }
 
 // The causes 16 and 17, and whether the record is counted, where its firm and its group were found.
 fn file_found(
-    schedule: &[u8],
-    l: Layout,
+    schedule: &Schedule,
     record: &[u8],
-    firm: usize,
+    firm: u8,
     group: GroupPlace,
 ) -> Result<Filed, Cause>
-    requires { FoundIs schedule.now l «record».now firm group }
-    ensures { filed_meaning result ≡ filing_by schedule.now l «record».now (drop 2 (list_causes schedule.now l «record».now)) }
+    requires { FoundIs schedule.now.bytes.now schedule.now.layout «record».now firm group }
+    ensures { filed_meaning result ≡ filing_by schedule.now.bytes.now schedule.now.layout «record».now (drop 2 (list_causes schedule.now.bytes.now schedule.now.layout «record».now)) }
 {
     let day = byte_at(record, DAY);
-    if !has_day(l.month, day) {
+    if !has_day(schedule.layout.month, day) {
         return Err(Cause::NoSuchDay);
     }
     match status_at(schedule, group.offset, record) {
         Status::Unlisted => Err(Cause::UnlistedContract),
         Status::Listed => Ok(Filed::Outside),
         Status::Counted => {
-            if !in_effect(l.month, l.closed, day) {
+            if !in_effect(schedule.layout.month, schedule.layout.closed, day) {
                 return Ok(Filed::Outside);
             }
             Ok(Filed::At {
@@ -106,24 +105,24 @@ fn file_found(
 }
 
 // The causes 14 to 17, and whether the record is counted.
-fn file_listed(schedule: &[u8], l: Layout, record: &[u8]) -> Result<Filed, Cause>
+fn file_listed(schedule: &Schedule, record: &[u8]) -> Result<Filed, Cause>
     requires { 7 ≤ length «record».now }
-    ensures { filed_meaning result ≡ filing_by schedule.now l «record».now (list_causes schedule.now l «record».now) }
+    ensures { filed_meaning result ≡ filing_by schedule.now.bytes.now schedule.now.layout «record».now (list_causes schedule.now.bytes.now schedule.now.layout «record».now) }
 {
-    let Some(firm) = find_firm(schedule, l, &record[FIRM_CODE..DAY]) else {
+    let Some(firm) = schedule.find_firm(&record[FIRM_CODE..DAY]) else {
         return Err(Cause::UnlistedFirm);
     };
-    let Some(group) = find_group(schedule, l, bytes_at(record, GROUP_CODE)) else {
+    let Some(group) = schedule.find_group(bytes_at(record, GROUP_CODE)) else {
         return Err(Cause::UnlistedGroup);
     };
-    file_found(schedule, l, record, firm, group)
+    file_found(schedule, record, firm, group)
 }
 
 // How the schedule takes a record: refused by one of 11 to 17 with 31 after 13, outside, or where its cell is.
-pub fn file(schedule: &[u8], l: Layout, record: &[u8]) -> Result<Filed, Cause>
-    ensures { filed_meaning result ≡ filing_of schedule.now l «record».now }
+pub fn file(schedule: &Schedule, record: &[u8]) -> Result<Filed, Cause>
+    ensures { filed_meaning result ≡ filing_of schedule.now.bytes.now schedule.now.layout «record».now }
 {
     check_form(record)?;
     check_fields(record)?;
-    file_listed(schedule, l, record)
+    file_listed(schedule, record)
 }

@@ -1,16 +1,17 @@
 -- What a search by code tells, and where the groups stand.
-use Prim.Native.Nat.{ℕ, ◌+◌, ◌<◌}
+use Prim.Native.Nat.{ℕ, ◌+◌, ◌<◌, ◌≤◌}
 use mathlib.Core.Bool.{Bool, true, false, cond}
 use mathlib.Core.List.{List}
 use mathlib.Core.Path.{◌≡◌, refl, sym, ap}
 use native.Mathlib.Numerals.{add-one}
 use native.Mathlib.Omega.{arith}
-use borrow.Author.Tests.{ltb-true}
-use Rattle.std.specs.Prelude.{Some, None, is_some}
+use borrow.Author.Tests.{ltb-true, lt-ltb}
+use Rattle.std.specs.Prelude.{Option, Some, None, is_some}
+use Rattle.std.proofs.Common.{MatchOption}
 use Rattle.wire.specs.Bytes.{u16_at}
 use Rattle.wire.specs.Choose.{seek, some}
 use Rattle.wire.proofs.Bools.{cond-true, cond-false}
-use Rattle.wire.proofs.Choose.{sought}
+use Rattle.wire.proofs.Choose.{sought, none_some}
 use Rattle.lookup.specs.Lookup.{group_start, group_found_at, group_place, group_is, group_listed, group_found, firm_is, firm_listed, firm_found}
 use Rattle.lookup.specs.declared.GroupPlace.{GroupPlace}
 use Rattle.lookup.specs.declared.Layout.{Layout}
@@ -44,6 +45,17 @@ found_at : (n : ℕ) (p : ℕ → Bool) {i : ℕ} → some n p ≡ true → seek
 found_at n p t e =
     let inside = ltb-true (seek 0 n p) n t in
     rw (← e) (record { listed = t; first = refl; inside = inside; holds = (sought n p).found (omega arith) })
+
+-- the library's answer to a search of a range is the first place, where there is one
+pub first_found : (n : ℕ) (p : ℕ → Bool) (r : Option ℕ)
+    → MatchOption r ((k : ℕ) → 0 ≤ k → k < n → p k ≡ false)
+    (λ i. (0 ≤ i) × (i < n) × (p i ≡ true) × ((k : ℕ) → 0 ≤ k → k < i → p k ≡ false))
+    → r ≡ cond (some n p) (Some (seek 0 n p)) None
+first_found n p None h = rw (none_some n p (λ k l. h k (omega arith) l))
+first_found n p (Some i) h =
+    let s = sought n p in
+    let here : seek 0 n p ≡ i = grind (arith, s.found, s.missed i, h.3 (seek 0 n p)) in
+    rw (here, lt-ltb i n h.1)
 
 module _ (S : List ℕ) (l : Layout) (C : List ℕ) where
   pub firm-found : {i : ℕ} → Some i ≡ firm_found S l C → FoundAt l.firms (firm_is S l.start C) i

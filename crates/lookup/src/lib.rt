@@ -1,11 +1,11 @@
-// Where the groups and firms of a schedule stand, which of them has a code, and the Program's constants in force.
+// What a schedule holds, where its groups and firms stand, which of them has a code, and the Program's constants in force.
 #![tactic(auto)]
 
 ghost use Rattle.std.specs.Prelude.{◌≡◌};
 ghost use Rattle.records.specs.Bodies.{rest_at, body_at};
 ghost use Rattle.records.specs.Fields.{group_fields, firm_fields};
 ghost use Rattle.lookup.specs.InForce.{rules_of};
-ghost use Rattle.lookup.specs.Lookup.{group_has, group_found, firm_found};
+ghost use Rattle.lookup.specs.Lookup.{firm_start, group_has, group_found, firm_found};
 
 use records::{FIRM_SIZE, Firm, Group, body_at, firm_fields, group_fields, has_code, rest_at};
 use rules::{Rules, version96};
@@ -13,7 +13,7 @@ use wire::u16_at;
 
 // What a good schedule holds, and where: the month's number, the days that are not in effect, the offset of the first group and how many
 // there are, the offset of the first firm and how many there are.
-#[derive(Clone, Copy)]
+#[derive(Clone, Copy, Debug, PartialEq, Eq)]
 pub struct Layout {
     pub month: u16,
     pub closed: u32,
@@ -23,11 +23,59 @@ pub struct Layout {
     pub firms: u8,
 }
 
+// A schedule's bytes, with what they hold.
+#[derive(Clone, Copy, Debug, PartialEq, Eq)]
+pub struct Schedule<'a> {
+    pub bytes: &'a [u8],
+    pub layout: Layout,
+}
+
 // Where a group stands: its place among the groups, and its record's offset.
-#[derive(Clone, Copy)]
+#[derive(Clone, Copy, Debug, PartialEq, Eq)]
 pub struct GroupPlace {
-    pub index: usize,
+    pub index: u8,
     pub offset: usize,
+}
+
+impl<'a> Schedule<'a> {
+    // Whether the record at a place has a group's code.
+    fn group_has(&self, at: usize, code: [u8; 2]) -> bool
+        ensures { result ≡ group_has self.now.bytes.now at code }
+    {
+        group_fields(rest_at(self.bytes, at)).code == code
+    }
+
+    // The group with a code.
+    pub fn find_group(&self, code: [u8; 2]) -> Option<GroupPlace>
+        ensures { result ≡ group_found self.now.bytes.now self.now.layout code }
+    {
+        let mut at = self.layout.first as usize;
+        for i in 0..self.layout.groups {
+            if self.group_has(at, code) {
+                return Some(GroupPlace {
+                    index: i,
+                    offset: at,
+                });
+            }
+            at += usize::from(u16_at(self.bytes, at));
+        }
+        None
+    }
+
+    // The fields of firm i, whatever its record's length says.
+    pub fn firm(&self, i: u8) -> Firm
+        ensures { result ≡ firm_fields (rest_at self.now.bytes.now (firm_start self.now.layout.start i)) }
+    {
+        let at = self.layout.start as usize + FIRM_SIZE * usize::from(i);
+        firm_fields(rest_at(self.bytes, at))
+    }
+
+    // The place among the firms of the one with a code, a slice of any length.
+    pub fn find_firm(&self, code: &[u8]) -> Option<u8>
+        ensures { result ≡ firm_found self.now.bytes.now self.now.layout code.now }
+    {
+        (0..self.layout.firms).find(|&i| has_code(self.firm(i), code))
+    }
 }
 
 // The fields of the group whose record stands at a place.
@@ -35,49 +83,6 @@ pub fn group_at(schedule: &[u8], at: usize) -> Group
     ensures { result ≡ group_fields (body_at schedule.now at) }
 {
     group_fields(body_at(schedule, at))
-}
-
-fn group_has(schedule: &[u8], at: usize, code: [u8; 2]) -> bool
-    ensures { result ≡ group_has schedule.now at code }
-{
-    group_fields(rest_at(schedule, at)).code == code
-}
-
-// The group with a code.
-pub fn find_group(schedule: &[u8], l: Layout, code: [u8; 2]) -> Option<GroupPlace>
-    ensures { result ≡ group_found schedule.now l code }
-{
-    let mut at = l.first as usize;
-    for i in 0..l.groups as usize {
-        if group_has(schedule, at, code) {
-            return Some(GroupPlace {
-                index: i,
-                offset: at,
-            });
-        }
-        at += u16_at(schedule, at) as usize;
-    }
-    None
-}
-
-// The fields of the firm whose record stands at a place, whatever its length says.
-pub fn firm_at(schedule: &[u8], at: usize) -> Firm
-    ensures { result ≡ firm_fields (rest_at schedule.now at) }
-{
-    firm_fields(rest_at(schedule, at))
-}
-
-// The place among the firms of the one with a code, a slice of any length.
-pub fn find_firm(schedule: &[u8], l: Layout, code: &[u8]) -> Option<usize>
-    ensures { result ≡ firm_found schedule.now l code.now }
-{
-    let start = l.start as usize;
-    for i in 0..l.firms as usize {
-        if has_code(firm_at(schedule, start + FIRM_SIZE * i), code) {
-            return Some(i);
-        }
-    }
-    None
 }
 
 // The Program's constants that hold for a schedule's month. They are version 9.6's whatever the schedule says; it is an argument since the

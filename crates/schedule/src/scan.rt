@@ -6,7 +6,7 @@ ghost use Rattle.schedule.specs.Check.{kind_of, is_due, length_ok, is_full, fiel
 ghost use Rattle.schedule.specs.Check.{header_causes, body_causes, cause, with_record, after, check_of};
 
 use contracts::contracts_ok;
-use lookup::{Layout, find_firm, find_group};
+use lookup::{Layout, Schedule};
 use records::{
     FIRM_KIND, FIRM_SIZE, GROUP_KIND, GROUP_LEAST, GROUP_MOST, HEAD_KIND, HEAD_SIZE, body_at,
     firm_fields, firm_ok, group_fields, group_in_range, head_fields, head_ok,
@@ -93,10 +93,14 @@ fn fields_ok(kind: Kind, body: &[u8]) -> bool
 fn is_repeated(kind: Kind, s: &[u8], l: Layout, body: &[u8]) -> bool
     ensures { result ≡ is_repeated kind s.now l body.now }
 {
+    let before = Schedule {
+        bytes: s,
+        layout: l,
+    };
     match kind {
         Kind::Head => false,
-        Kind::Group => find_group(s, l, group_fields(body).code).is_some(),
-        Kind::Firm => find_firm(s, l, body).is_some(),
+        Kind::Group => before.find_group(group_fields(body).code).is_some(),
+        Kind::Firm => before.find_firm(body).is_some(),
         Kind::Other => false,
     }
 }

@@ -40,7 +40,7 @@ returns-in_err-check_form c =
 pub returns-in_err-check_fields : goal.returns-in_err-check_fields
 returns-in_err-check_fields c =
     let R = c.args.«record».now in
-    let lists = list_causes c.args.schedule.now c.args.l R in
+    let lists = list_causes c.args.schedule.now.bytes.now c.args.schedule.now.layout R in
     let formed = passed (form_causes R) refl (sym c.in_ok-check_form.ensures) in
     let first = choose_first (field_causes R) lists (sym c.in_err-check_fields.ensures) (not_0 _) in
     let p = err_from_is_err_and c.from_residual-in_err-check_fields.result c.from_residual-in_err-check_fields.ensures.1 in
@@ -53,7 +53,7 @@ pub returns : goal.returns
 unfolding filing_by
 returns c =
     let R = c.args.«record».now in
-    let lists = list_causes c.args.schedule.now c.args.l R in
+    let lists = list_causes c.args.schedule.now.bytes.now c.args.schedule.now.layout R in
     let formed = passed (form_causes R) refl (sym c.in_ok-check_form.ensures) in
     let sound = passed (field_causes R) refl (sym c.in_ok-check_fields.ensures) in
     rw (choose_second (form_causes R) (field_causes R ++ lists) formed, choose_second (field_causes R) lists sound) c.file_listed.ensures

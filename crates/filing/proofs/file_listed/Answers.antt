@@ -30,10 +30,10 @@ returns-in_default-find_group c =
 pub returns : goal.returns
 unfolding firm_listed group_listed choose filing_by joined
 returns c =
-    let S = c.args.schedule.now in
+    let S = c.args.schedule.now.bytes.now in
     let R = c.args.«record».now in
     let f = firm-found _ _ _ c.in-Some.ensures in
     let e = rw c.bytes_at.ensures at c.in-Some-find_group.ensures in
     let g = group-found _ _ _ e in
-    let same : choose (list_causes S c.args.l R) 0 ≡ choose (drop 2 (list_causes S c.args.l R)) 0 = rw (ap not f.listed, ap not g.listed) refl in
+    let same : choose (list_causes S c.args.schedule.now.layout R) 0 ≡ choose (drop 2 (list_causes S c.args.schedule.now.layout R)) 0 = rw (ap not f.listed, ap not g.listed) refl in
     rw same c.file_found.ensures

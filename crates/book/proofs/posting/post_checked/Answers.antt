@@ -1,5 +1,5 @@
 -- Each way that the schedule takes a record is one of the answers; a record that is counted has its cell inside the book.
-use Rattle.std.proofs.Common.{◌≡◌, ℕ, ◌≤◌, List, refl, sym, ap, ◌∙◌, arith, rules}
+use Rattle.std.proofs.Common.{◌≡◌, ℕ, List, refl, sym, ap, ◌∙◌, arith}
 use Rattle.std.specs.Prelude.{Ok}
 use Rattle.std.proofs.lemmas.Result.{err_from_is_err_and}
 use Rattle.wire.proofs.Choose.{passed}
@@ -29,13 +29,9 @@ index_same G p q r = rw (p, q, r) refl
 
 pub cell_index-at-requires : goal.cell_index-at-requires
 cell_index-at-requires c =
-    let a = c.args in
-    let f : a.l.firms ≤ 255 = search rules in
-    let g : a.l.groups ≤ 255 = search rules in
     let known = sym (ap filed_meaning c.in_ok-file.was) ∙ c.file.ensures in
-    let here = placed _ _ _ known c.in-At.is in
     let p = passes _ _ _ known c.in-At.is in
-    (omega (arith, here.firm, p.firm), omega (arith, here.group, p.placed.group), omega (arith, c.byte_at.ensures, p.placed.first))
+    omega (arith, c.byte_at.ensures, p.placed.first)
 
 pub enter-requires : goal.enter-requires
 enter-requires c =

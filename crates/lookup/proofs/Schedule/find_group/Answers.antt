@@ -4,7 +4,7 @@ use borrow.Author.Tests.{lt-ltb, le-ltb}
 use Rattle.wire.proofs.Choose.{seek_hit, seek-next, seek_end}
 use Rattle.lookup.specs.Lookup.{group_is, group_listed, group_found}
 use Rattle.lookup.proofs.Laws.{group_next, group-first}
-use Rattle.lookup.proofs.find_group.Goals as goal
+use Rattle.lookup.proofs.Schedule.find_group.Goals as goal
 
 pub returns-then-group_has : goal.returns-then-group_has
 unfolding group_found group_listed group_is
@@ -22,7 +22,7 @@ loop-i-preserved c =
     let hasnt = sym c.group_has.ensures ∙ c.if-group_has.false in
     record {
       near = search rules;
-      stands = simp (c.u16_at.ensures, group_next, l.invariant.stands);
+      stands = simp (c.from-at.ensures, c.u16_at.ensures, group_next, l.invariant.stands);
       seeks = l.invariant.seeks ∙ seek-next _ _ _ c.loop-i-test.true (rw l.invariant.stands at hasnt);
     }
 
