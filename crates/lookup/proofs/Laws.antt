@@ -17,9 +17,9 @@ use Rattle.lookup.specs.declared.GroupPlace.{GroupPlace}
 use Rattle.lookup.specs.declared.Layout.{Layout}
 
 -- a search finds something where there is something
-pub some-found : {A : Type 0} (b : Bool) (a : A) → is_some (cond b (Some a) None) ≡ b
-some-found true a = refl
-some-found false a = refl
+pub some_found : {A : Type 0} (b : Bool) (a : A) → is_some (cond b (Some a) None) ≡ b
+some_found true a = refl
+some_found false a = refl
 
 -- a code that was found is listed, and one that was not isn't
 module _ {A : Type 0} (b : Bool) (a : A) where

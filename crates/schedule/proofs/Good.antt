@@ -20,7 +20,7 @@ use Rattle.contracts.specs.Listing.{contracts_ok, listed}
 use Rattle.records.specs.declared.fields.Firm.{Firm}
 use Rattle.refusals.specs.Outcome.{refused, good}
 use Rattle.lookup.specs.Lookup.{group_start, firm_start, group_is, firm_is, group_listed, firm_listed}
-use Rattle.schedule.specs.Check.{kind_here, is_due, length_ok, fields_ok, is_repeated, header_causes, body_causes, cause, with_record, after, ending, scan, begin, check_of}
+use Rattle.schedule.specs.Check.{kind_here, is_due, length_ok, fields_ok, is_repeated, header_causes, body_causes, cause, with_record, after, ending, Fine, scan, begin, check_of}
 use Rattle.schedule.specs.Good.{Once, GroupStands, FirmStands, GoodSchedule, Numbered}
 use Rattle.lookup.specs.declared.Layout.{Layout}
 use Rattle.schedule.specs.declared.scan.Cursor.{Cursor}
@@ -28,7 +28,7 @@ use Rattle.schedule.specs.declared.scan.Kind.{Kind}
 use Rattle.schedule.specs.declared.scan.Kind.TheVariants as kind
 use Rattle.schedule.proofs.Numbers.{HasNumber, kind_number}
 use Rattle.lookup.proofs.Laws.{group_next, group-first}
-use Rattle.schedule.proofs.Turns.{Fine, taken, accepted, scan_end, scan-refused, scan-next}
+use Rattle.schedule.proofs.Turns.{taken, accepted, scan_end, scan-refused, scan-next}
 
 pub refused-good : {A : Type 0} {n o : ℕ} {a : A} → refused n o ≡ good a → ⊥
 refused-good e = let z : ◌≡◌ {A = ℕ} 0 1 = cc in omega arith

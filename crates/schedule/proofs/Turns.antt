@@ -1,5 +1,5 @@
 -- Laws of `scan`: what one turn of the check's loop does, and that the place stays in bounds.
-use Prim.Native.Nat.{ℕ, zero, suc, ◌+◌, ◌-◌, ◌*◌, ◌≤◌, ◌<◌}
+use Prim.Native.Nat.{ℕ, zero, suc, ◌+◌, ◌-◌, ◌≤◌, ◌<◌}
 use mathlib.Core.Bool.{true, false, false≢true}
 use mathlib.Core.List.{List}
 use mathlib.Core.Path.{◌≡◌, refl}
@@ -7,20 +7,13 @@ use native.Mathlib.Omega.{arith}
 use lib.ListN.{length}
 use borrow.Author.Tests.{le-leb, lt-leb, eq-eqb, ne_eqb, eqb-true, eqb-false, ltb-false, not-false}
 use Rattle.wire.proofs.Choose.{here, next, done, chosen, passed}
-use Rattle.records.specs.Bodies.{length_at, body_at, head_size, largest_group, firm_size}
+use Rattle.records.specs.Bodies.{length_at, body_at, head_size, firm_size}
 use Rattle.refusals.specs.Outcome.{refused}
-use Rattle.schedule.specs.Check.{kind_here, is_due, length_ok, is_full, fields_ok, is_repeated, cause, with_record, after, ending, scan}
+use Rattle.schedule.specs.Check.{kind_here, is_due, length_ok, is_full, fields_ok, is_repeated, cause, with_record, after, ending, Fine, scan}
 use Rattle.schedule.specs.declared.scan.Cursor.{Cursor}
 use Rattle.schedule.specs.declared.scan.Kind.{Kind}
 use Rattle.schedule.specs.declared.scan.Kind.TheVariants as kind
 use Rattle.schedule.proofs.Numbers.{length_bounds}
-
--- a place within the schedule, with no more records before it than a schedule has
-pub record Fine (S : List ℕ) (p : Cursor) : Type 0 where
-  pub inside : p.at ≤ length S
-  pub groups : p.held.groups ≤ 32
-  pub firms : p.held.firms ≤ 200
-  pub near : p.at ≤ head_size + largest_group * p.held.groups + firm_size * p.held.firms
 
 -- what a record that no cause refuses has passed
 pub record Taken (S : List ℕ) (p : Cursor) : Type 0 where

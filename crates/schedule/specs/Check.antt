@@ -1,7 +1,7 @@
 -- The check of a whole schedule, record by record (document 01, "Records" and "Numbers of refusal"). S is the schedule, p the place of a record: `Cursor`
 -- is the struct of src/scan.rt, the record's offset and what the records before it hold. B is the record's body.
 -- Assumes nothing.
-use Rattle.std.specs.Prelude.{ℕ, zero, suc, ◌+◌, ◌-◌, ◌%◌, Bool, true, false, cond, not, ◌&&◌, List, [], ◌∷◌, ◌++◌, eqb, leb, ltb, length}
+use Rattle.std.specs.Prelude.{ℕ, zero, suc, ◌+◌, ◌-◌, ◌*◌, ◌%◌, ◌≤◌, Bool, true, false, cond, not, ◌&&◌, List, [], ◌∷◌, ◌++◌, eqb, leb, ltb, length}
 use Rattle.wire.specs.Choose.{choose, within}
 use Rattle.rules.specs.Marks.{most_groups}
 use Rattle.records.specs.Bodies.{length_at, kind_at, body_at, head_kind, group_kind, firm_kind, head_size, least_group, largest_group, firm_size}
@@ -99,6 +99,13 @@ abbrev pub after : (S : List ℕ) → Cursor → Cursor
 after S p =
     let next = p.at + length_at S p.at in
     record { at = next; held = with_record (kind_here S p) (body_at S p.at) next p.held }
+
+-- a place within the schedule, with no more records before it than a schedule has
+pub record Fine (S : List ℕ) (p : Cursor) : Type 0 where
+  pub inside : p.at ≤ length S
+  pub groups : p.held.groups ≤ 32
+  pub firms : p.held.firms ≤ 200
+  pub near : p.at ≤ head_size + largest_group * p.held.groups + firm_size * p.held.firms
 
 -- Numbers of refusal, at the end 4, with the schedule's length: a firm comes after a group and a head, so it is missing where one of the three is
 unfoldable pub ending : (S : List ℕ) → Layout → Outcome Layout

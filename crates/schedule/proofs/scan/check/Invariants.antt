@@ -4,11 +4,11 @@ use Prim.Native.Nat.{ℕ, ◌-◌, ◌<◌}
 use mathlib.Core.Path.{◌≡◌}
 use lib.ListN.{length}
 use Rattle.schedule.specs.Check.{check_of, scan}
-use Rattle.schedule.proofs.Turns.{Fine}
+use Rattle.schedule.specs.Check.{Fine}
 use Rattle.schedule.proofs.scan.check.Given as goal
 
-abbrev pub invariant-loop-p : goal.invariant-loop-p
-invariant-loop-p l = (n : ℕ) × (length l.schedule - l.p.at < n) × (check_of l.schedule ≡ scan l.schedule n l.p) × Fine l.schedule l.p
+abbrev pub invariant-loop-place : goal.invariant-loop-place
+invariant-loop-place l = (n : ℕ) × (length l.schedule - l.place.at < n) × (check_of l.schedule ≡ scan l.schedule n l.place) × Fine l.schedule l.place
 
-abbrev pub decreases-loop-p : goal.decreases-loop-p
-decreases-loop-p l = length l.schedule - l.p.at
+abbrev pub decreases-loop-place : goal.decreases-loop-place
+decreases-loop-place l = length l.schedule - l.place.at
