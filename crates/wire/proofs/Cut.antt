@@ -84,6 +84,16 @@ cut-next S h = go (length S) refl
         rw (ne_eqb (length S) 0 (λ z. omega arith))
         (ap (λ rs. take (first_length S) S ∷ rs) (fuel_any n (length rest) rest (omega (arith, taken, left)) (le_refl _)))
 
+-- what an iterator over a run knows of it: it is empty, or it was parted behind its first record
+pub records_none : (S : List ℕ) → length S ≡ 0 → cut S ≡ []
+records_none S e = cut-none (length S) S e
+
+pub first_most : (S : List ℕ) → first_length S ≤ length S
+first_most S = (first_in S).most
+
+pub records_more : (S R T : List ℕ) → 0 < length S → R ≡ take (first_length S) S → T ≡ drop (first_length S) S → cut S ≡ R ∷ cut T
+records_more S R T h e f = rw (e, f) (cut-next S h)
+
 -- what a loop over a run S knows at the place `at`, where it measured a record of `len` bytes: that is the first record from there on, it has a byte,
 -- and it lies within the run
 pub record CutAt (S : List ℕ) (at len : ℕ) : Type 0 where

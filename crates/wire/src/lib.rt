@@ -3,9 +3,10 @@
 #![tactic(auto)]
 
 ghost use Rattle.std.specs.Prelude.{◌≡◌, ◌+◌, ◌≤◌, min, length, drop, get_or};
+ghost use Rattle.std.specs.Iterator.{YieldsFirstRef, item_count};
 ghost use Rattle.wire.specs.Bytes.{u16_at, u32_at};
 ghost use Rattle.wire.specs.Choose.{within};
-ghost use Rattle.wire.specs.Cut.{first_length};
+ghost use Rattle.wire.specs.Cut.{first_length, cut, records_in};
 ghost use Rattle.wire.specs.Lists.{table, over};
 ghost use Rattle.wire.specs.Sums.{bit};
 
@@ -72,6 +73,40 @@ pub fn first_len(run: &[u8]) -> usize
         run.len()
     } else {
         len.min(run.len())
+    }
+}
+
+// The records of a run that are left, from its front on.
+#[derive(Clone, Copy, Debug)]
+pub struct Records<'a> {
+    rest: &'a [u8],
+}
+
+impl<'a> Records<'a> {
+    // All records of a run.
+    pub fn new(run: &'a [u8]) -> Records<'a>
+        ensures { records_in result ≡ cut run.now }
+    {
+        Records { rest: run }
+    }
+}
+
+impl<'a> Iterator for Records<'a> {
+    type Item = &'a [u8];
+
+    ghost next_gives = { YieldsFirstRef records_in };
+
+    ghost remaining = { item_count records_in };
+
+    #[tactic(auto, using(crate::proofs::Cut::records_none, crate::proofs::Cut::first_most, crate::proofs::Cut::records_more))]
+    fn next(&mut self) -> Option<&'a [u8]> {
+        let run = self.rest;
+        if run.is_empty() {
+            return None;
+        }
+        let (record, rest) = run.split_at(first_len(run));
+        self.rest = rest;
+        Some(record)
     }
 }
 
