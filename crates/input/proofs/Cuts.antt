@@ -101,3 +101,6 @@ module _ (I : List ℕ) {end : ℕ} (e : end ≡ length (schedule_of I)) where
   -- it is no longer than the input
   pub schedule_most : end ≤ length I
   schedule_most = rw e parted.most
+
+pub schedule_within : (I : List ℕ) → length (schedule_of I) ≤ length I
+schedule_within I = schedule_most I refl

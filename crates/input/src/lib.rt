@@ -5,7 +5,7 @@ ghost use Rattle.std.specs.Prelude.{◌≡◌, length};
 ghost use Rattle.input.specs.Input.{begins_activity, schedule_of};
 
 use activity::{is_activity, is_correction};
-use wire::first_len;
+use wire::Records;
 
 // The most bytes of an input that is taken.
 pub const INPUT: usize = 65_536;
@@ -18,16 +18,16 @@ fn begins_activity(record: &[u8]) -> bool
 }
 
 // The offset of the first record of activity or correction, or the input's length.
+#[tactic(auto, using(crate::proofs::Cuts::schedule_within), unfolding(crate::specs::Input::bytes_before))]
 pub fn schedule_end(input: &[u8]) -> usize
     ensures { result ≡ length (schedule_of input.now) }
 {
-    let mut at: usize = 0;
-    while at < input.len() {
-        let len = first_len(&input[at..]);
-        if begins_activity(&input[at..at + len]) {
+    let mut end = 0;
+    for record in Records::new(input) {
+        if begins_activity(record) {
             break;
         }
-        at += len;
+        end += record.len();
     }
-    at
+    end
 }
