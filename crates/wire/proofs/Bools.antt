@@ -50,9 +50,6 @@ ltb-leb a b = go (leb a b) refl
     go false e = lt-ltb b a (leb-false a b e)
 
 -- what a callee's flag r told of the test t that it answers, where the code branched on `!r`
-pub yes : {r t : Bool} → r ≡ t → not r ≡ false → t ≡ true
-yes {r} e f = sym e ∙ not-false r f
-
 pub no : {r t : Bool} → r ≡ t → not r ≡ true → t ≡ false
 no {r} e f = sym e ∙ not-true r f
 

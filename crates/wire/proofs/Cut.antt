@@ -94,21 +94,6 @@ first_most S = (first_in S).most
 pub records_more : (S R T : List ℕ) → 0 < length S → R ≡ take (first_length S) S → T ≡ drop (first_length S) S → cut S ≡ R ∷ cut T
 records_more S R T h e f = rw (e, f) (cut-next S h)
 
--- what a loop over a run S knows at the place `at`, where it measured a record of `len` bytes: that is the first record from there on, it has a byte,
--- and it lies within the run
-pub record CutAt (S : List ℕ) (at len : ℕ) : Type 0 where
-  pub first : len ≡ first_length (drop at S)
-  pub some : 0 < len
-  pub most : at + len ≤ length S
-
--- `&s[at..]` was measured
-pub cut_at : (S : List ℕ) (at len : ℕ) → at < length S → len ≡ first_length (take (length S - at) (drop at S)) → CutAt S at len
-cut_at S at len h e =
-    let first : len ≡ first_length (drop at S) = rw part_lent at e in
-    let left = length-drop at S in
-    let f = first_in (drop at S) in
-    record { first = first; some = omega (arith, first, left, f.some (omega arith)); most = omega (arith, first, left, f.most) }
-
 -- a run of bytes has records of bytes
 pub cut-bytes : (fuel : ℕ) (S : List ℕ) → are_bytes S ≡ true → all (map are_bytes (cut_in fuel S)) ≡ true
 unfolding cut_in all

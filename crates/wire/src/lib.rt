@@ -51,6 +51,7 @@ pub fn bytes_at<const N: usize>(s: &[u8], at: usize) -> [u8; N]
 }
 
 // The number of two bytes at a place.
+#[tactic(auto, unfolding(crate::specs::Bytes::u16_at, crate::specs::Lists::joined))]
 pub fn u16_at(s: &[u8], at: usize) -> u16
     ensures { result ≡ u16_at s.now at }
 {
@@ -58,6 +59,7 @@ pub fn u16_at(s: &[u8], at: usize) -> u16
 }
 
 // The number of four bytes at a place.
+#[tactic(auto, unfolding(crate::specs::Bytes::u16_at, crate::specs::Bytes::u32_at, crate::specs::Lists::joined))]
 pub fn u32_at(s: &[u8], at: usize) -> u32
     ensures { result ≡ u32_at s.now at }
 {
@@ -65,6 +67,7 @@ pub fn u32_at(s: &[u8], at: usize) -> u32
 }
 
 // How many bytes the first record of a run takes: all of them, where its length field is under four or past the end.
+#[tactic(auto, using(crate::proofs::Cut::first_under, crate::proofs::Cut::first_least))]
 pub fn first_len(run: &[u8]) -> usize
     ensures { result ≡ first_length run.now }
 {
