@@ -21,27 +21,15 @@ pub enum Line {
     RefusedAt(Refusal),
 }
 
-const HEADING: [u8; 4] = *b"MPS ";
-
-const REFUSED: [u8; 8] = *b"refused ";
-
-const SEVERE: [u8; 6] = *b"severe";
-
-const BILLED: [u8; 6] = *b"billed";
-
-const MONTHLY: [u8; 7] = *b"monthly";
-
-const AUTOMATIC: [u8; 9] = *b"automatic";
-
 // The word of a mark.
 fn mark_word(mark: u8) -> &'static [u8]
     ensures { result.now ≡ mark_word mark }
 {
     match mark {
-        1 => &SEVERE,
-        2 => &BILLED,
-        3 => &MONTHLY,
-        _ => &AUTOMATIC,
+        1 => b"severe",
+        2 => b"billed",
+        3 => b"monthly",
+        _ => b"automatic",
     }
 }
 
@@ -50,7 +38,7 @@ impl Output<'_> {
     fn put_refused_at(&mut self, refusal: Refusal)
         ensures { Wrote self.old (refused_at (number_of refusal.cause) refusal.offset) self.new }
     {
-        self.put_number(&REFUSED, refusal.cause.number() as u64, b" at ");
+        self.put_number(b"refused ", u64::from(refusal.cause.number()), b" at ");
         self.put_decimal(refusal.offset as u64);
         self.put(b"\n");
     }
@@ -61,8 +49,8 @@ impl Output<'_> {
     {
         match line {
             Line::TooLong => self.put(b"too long\n"),
-            Line::Heading(month) => self.put_number(&HEADING, month as u64, b"\n"),
-            Line::Refused(cause) => self.put_number(&REFUSED, cause.number() as u64, b"\n"),
+            Line::Heading(month) => self.put_number(b"MPS ", u64::from(month), b"\n"),
+            Line::Refused(cause) => self.put_number(b"refused ", u64::from(cause.number()), b"\n"),
             Line::RefusedAt(refusal) => self.put_refused_at(refusal),
         }
     }
@@ -73,12 +61,12 @@ impl Output<'_> {
     {
         let group = [byte_at(line, LINE_GROUP), byte_at(line, LINE_GROUP + 1)];
         self.put(code);
-        self.put_field(byte_at(line, LINE_DAY) as u64);
+        self.put_field(u64::from(byte_at(line, LINE_DAY)));
         self.put(b" ");
         self.put(&group);
         self.put(b" ");
         self.put(mark_word(byte_at(line, LINE_MARK)));
-        self.put_field(u32_at(line, LINE_DOLLARS) as u64);
+        self.put_field(u64::from(u32_at(line, LINE_DOLLARS)));
         self.put(b"\n");
     }
 
@@ -86,11 +74,11 @@ impl Output<'_> {
     fn put_counts(&mut self, totals: &[u8])
         ensures { Wrote self.old (counts totals.now) self.new }
     {
-        self.put_field(u16_at(totals, TOTALS_VIOLATIONS) as u64);
-        self.put_field(u16_at(totals, TOTALS_MONTHLY) as u64);
-        self.put_field(u16_at(totals, TOTALS_AUTOMATIC) as u64);
-        self.put_field(u16_at(totals, TOTALS_BILLED) as u64);
-        self.put_field(u32_at(totals, TOTALS_DOLLARS) as u64);
+        self.put_field(u64::from(u16_at(totals, TOTALS_VIOLATIONS)));
+        self.put_field(u64::from(u16_at(totals, TOTALS_MONTHLY)));
+        self.put_field(u64::from(u16_at(totals, TOTALS_AUTOMATIC)));
+        self.put_field(u64::from(u16_at(totals, TOTALS_BILLED)));
+        self.put_field(u64::from(u32_at(totals, TOTALS_DOLLARS)));
     }
 
     // Writes the line of a totals record.
@@ -99,7 +87,7 @@ impl Output<'_> {
     {
         self.put(code);
         self.put(b" grouping");
-        self.put_field(byte_at(totals, TOTALS_GROUPING) as u64);
+        self.put_field(u64::from(byte_at(totals, TOTALS_GROUPING)));
         self.put(b":");
         self.put_counts(totals);
         self.put(b"\n");

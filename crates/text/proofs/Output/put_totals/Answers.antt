@@ -6,5 +6,5 @@ use Rattle.text.proofs.Output.put_totals.Goals as goal
 pub returns : goal.returns
 unfolding totals_line
 returns c =
-    rw (← c.byte_at.ensures)
+    rw (← c.byte_at.ensures, ← c.from.ensures)
     (c.put.ensures then c.put-2.ensures then c.put_field.ensures then c.put-3.ensures then c.put_counts.ensures then c.put-4.ensures)

@@ -6,7 +6,7 @@ use Rattle.text.proofs.Output.put_violation.Goals as goal
 pub returns : goal.returns
 unfolding violation_line
 returns c =
-    rw (← c.byte_at.ensures, ← c.byte_at-2.ensures, ← c.byte_at-3.ensures, ← c.byte_at-4.ensures, ← c.mark_word.ensures, ← c.u32_at.ensures)
+    rw (← c.byte_at.ensures, ← c.byte_at-2.ensures, ← c.byte_at-3.ensures, ← c.byte_at-4.ensures, ← c.mark_word.ensures, ← c.u32_at.ensures, ← c.from.ensures, ← c.from-2.ensures)
     (c.put.ensures
     then c.put_field.ensures
     then c.put-2.ensures
