@@ -22,6 +22,7 @@ pub enum Line {
 }
 
 // The word of a mark.
+#[tactic(auto, unfolding(crate::specs::Lines::mark_word, wire::specs::Choose::choose))]
 fn mark_word(mark: u8) -> &'static [u8]
     ensures { result.now ≡ mark_word mark }
 {
@@ -44,6 +45,7 @@ impl Output<'_> {
     }
 
     // Writes a line other than a violation or totals.
+    #[tactic(auto, unfolding(crate::specs::Lines::heading, crate::specs::Lines::refused_line))]
     pub fn put_line(&mut self, line: Line)
         ensures { Wrote self.old (line_text line) self.new }
     {
