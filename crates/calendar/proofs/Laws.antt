@@ -1,4 +1,4 @@
--- No month has more than 31 days.
+-- No month has more than 31 days, so the bit of each day, and of the day past the last, is one of a mask's 32.
 use Prim.Native.Nat.{ℕ, zero, suc, ◌%◌, ◌≤◌, zero-le}
 use mathlib.Core.Bool.{Bool, true, ◌&&◌}
 use mathlib.Core.List.{List, [], ◌∷◌}
