@@ -1,18 +1,18 @@
--- What a verdict says of the tests that gave it, by a table of their outcomes; the bounds of factors.
+-- What a verdict says of the tests that gave it, by a table of their outcomes; what totals and days that are not refused are bounded by.
 -- No code gets worse where totals are eased: the factor does not fall, so the bound rises while the score falls.
-use Prim.Native.Nat.{ℕ, ◌*◌, ◌<◌, ◌≤◌, suc-le-suc}
+use Prim.Native.Nat.{ℕ, ◌*◌, ◌≤◌, suc-le-suc}
 use mathlib.Core.Bool.{Bool, true, false, cond, not, ◌&&◌, ◌||◌}
 use mathlib.Core.List.{[], ◌∷◌}
-use mathlib.Core.Path.{◌≡◌, refl, sym}
+use mathlib.Core.Path.{◌≡◌, refl}
 use native.Mathlib.Nat.{le_refl, le_trans, mul-le-mul, mul-le-mul_left}
 use native.Mathlib.Omega.{arith}
 use lib.Dec.{leb, ltb}
-use borrow.Author.Tests.{not-false, leb-true, lt-ltb, le-ltb}
+use borrow.Author.Tests.{not-false, leb-true, le-ltb}
 use Rattle.wire.specs.Choose.{choose}
 use Rattle.wire.proofs.Bools.{and_left, and_right, cond_le, ltb-leb, range}
-use Rattle.wire.proofs.Choose.{chosen, here, next, done, each}
+use Rattle.wire.proofs.Choose.{chosen, next, done, each}
 use Rattle.wire.proofs.Implies.{◌⇒◌, not-⇒, and-⇒, leb-⇒, cond_rises}
-use Rattle.rules.specs.Verdict.{version96, not_judged, Falling, by_tier, tier_factor, exceeds, verdict, is_violation, is_severe, limit, fits, is_benchmark, is_refused, decided, too_many_days, days_verdict, number_of}
+use Rattle.rules.specs.Verdict.{version96, not_judged, Falling, tier_factor, exceeds, verdict, is_violation, is_severe, limit, fits, is_benchmark, is_refused, decided, days_verdict, number_of}
 use Rattle.rules.specs.Bounds.{Lawful, Bounded}
 use Rattle.rules.specs.Month.{is_exempt}
 use Rattle.rules.specs.Laws.{read_back}
@@ -46,24 +46,6 @@ module _ (P : Rules) (B d : ℕ) (t : Totals) where
   judged_by : ByTests (leb t.raw (P.edge1 * d)) (exceeds P B d t) (exceeds P (P.severe * B) d t) (tier_factor P d t.raw) (verdict P B d t)
   unfolding verdict
   judged_by = by_tests _ _ _ _ _ _
-
-  -- the test of a score, by the factor that it takes
-  pub by_factor : {m : ℕ} → m ≡ tier_factor P d t.raw → ltb (B * m * t.lots) (100 * t.score) ≡ exceeds P B d t
-  by_factor e = rw e
-
-  -- a raw count above the first edge has its tier's factor m, and the code by the two comparisons
-  module _ (e : leb t.raw (P.edge1 * d) ≡ false) {m : ℕ} (f : m ≡ tier_factor P d t.raw) where
-    pub is_pass : exceeds P B d t ≡ false → ◌≡◌ {A = Verdict} (record { code = by_tier P d t.raw 3 2 1; factor = m }) (verdict P B d t)
-    unfolding verdict
-    is_pass x = rw f (sym (chosen (next e (next (rw x) (next x done)))))
-
-    pub is-severe : exceeds P B d t ≡ true → exceeds P (P.severe * B) d t ≡ true → ◌≡◌ {A = Verdict} (record { code = 5; factor = m }) (verdict P B d t)
-    unfolding verdict
-    is-severe x y = rw f (sym (chosen (next e (here (rw (x, y))))))
-
-    pub is_ordinary : exceeds P B d t ≡ true → exceeds P (P.severe * B) d t ≡ false → ◌≡◌ {A = Verdict} (record { code = 4; factor = m }) (verdict P B d t)
-    unfolding verdict
-    is_ordinary x y = rw f (sym (chosen (next e (next (rw (x, y)) (here x)))))
 
   pub fails : is_violation (verdict P B d t).code ≡ ltb (P.edge1 * d) t.raw && exceeds P B d t
   fails = rw (ltb-leb t.raw (P.edge1 * d)) judged_by.violation
@@ -125,11 +107,6 @@ fitting d t e =
     let h = each (leb t.raw (limit * d) ∷ leb t.score (limit * d) ∷ leb t.lots (limit * d) ∷ []) e in
     record { raw = leb-true _ _ h.0; score = leb-true _ _ h.1.0; lots = leb-true _ _ h.1.1.0 }
 
--- that there are more days than a month has is asked first
-pub too_many : (d : ℕ) (t : Totals) (B : ℕ) → 31 < d → too_many_days ≡ days_verdict d t B
-unfolding days_verdict
-too_many d t B h = sym (chosen (here (lt-ltb 31 d h)))
-
 -- where nothing is refused there is a verdict
 pub days-decided : (d : ℕ) (t : Totals) (B : ℕ) → d ≤ 31 → fits d t ≡ true → is_benchmark B ≡ true
     → days_verdict d t B ≡ decided (verdict version96 B d t)
@@ -147,11 +124,6 @@ bounded d t B h e =
     let f = fitting d t (and_left (fits d t) (is_benchmark B) both) in
     let b = range 1 100000 B (and_right (fits d t) (is_benchmark B) both) in
     record { lawful = lawful96; benchmark = b.most; days = h; score = omega (arith, f.score); lots = omega (arith, f.lots) }
-
--- a lawful factor is at most 10
-pub factor_most : {P : Rules} → Lawful P → (d raw : ℕ) → tier_factor P d raw ≤ 10
-unfolding choose
-factor_most {P} L d raw = cond_le (leb raw (P.edge2 * d)) L.factor1 (cond_le (leb raw (P.edge3 * d)) L.factor2 L.factor3)
 
 -- the totals t' of d' days against t of d: t' keeps to whatever raw edge of a day t kept to
 pub record Eased (d' : ℕ) (t' : Totals) (d : ℕ) (t : Totals) : Type 0 where
