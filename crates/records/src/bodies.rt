@@ -28,10 +28,11 @@ pub fn rest_at(s: &[u8], at: usize) -> &[u8]
 }
 
 // The body of the record at a place, cut short at the end of the bytes.
+#[tactic(auto, using(crate::proofs::Parts::take_least))]
 pub fn body_at(s: &[u8], at: usize) -> &[u8]
     ensures { result.now ≡ body_at s.now at }
 {
     let rest = rest_at(s, at);
-    let size = (u16_at(s, at) as usize).saturating_sub(4);
+    let size = usize::from(u16_at(s, at)).saturating_sub(4);
     &rest[..size.min(rest.len())]
 }

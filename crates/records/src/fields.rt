@@ -5,10 +5,10 @@ ghost use Rattle.records.specs.Fields.{group_fields, group_in_range};
 
 use calendar::{days_in, is_month};
 use rules::is_benchmark;
-use wire::{byte_at, bytes_at, u16_at, u32_at, within};
+use wire::{byte_at, bytes_at, u16_at, u32_at};
 
 // A head's fields: the month's number, and the days that are not in effect.
-#[derive(Clone, Copy)]
+#[derive(Clone, Copy, Debug, PartialEq, Eq)]
 pub struct Head {
     pub month: u16,
     pub closed: u32,
@@ -16,7 +16,7 @@ pub struct Head {
 
 // A group's fields: the two letters of its code, its exchange grouping, k (how many contracts of the front mask are counted), its
 // benchmark, and the two masks.
-#[derive(Clone, Copy)]
+#[derive(Clone, Copy, Debug, PartialEq, Eq)]
 pub struct Group {
     pub code: [u8; 2],
     pub grouping: u8,
@@ -27,12 +27,13 @@ pub struct Group {
 }
 
 // A firm's fields: the three letters of its code.
-#[derive(Clone, Copy)]
+#[derive(Clone, Copy, Debug, PartialEq, Eq)]
 pub struct Firm {
     pub code: [u8; 3],
 }
 
 // A head's fields as they stand in its body.
+#[tactic(auto, unfolding(crate::specs::Fields::head_fields))]
 pub fn head_fields(body: &[u8]) -> Head
     ensures { result ≡ head_fields body.now }
 {
@@ -43,6 +44,7 @@ pub fn head_fields(body: &[u8]) -> Head
 }
 
 // A head's fields are in their ranges.
+#[tactic(auto, using(calendar::proofs::Laws::days_most), unfolding(crate::specs::Fields::head_ok, wire::specs::Choose::all))]
 pub fn head_ok(head: Head) -> bool
     ensures { result ≡ head_ok head }
 {
@@ -50,19 +52,21 @@ pub fn head_ok(head: Head) -> bool
     is_month(head.month) & (head.closed >> days == 0)
 }
 
+#[tactic(auto, unfolding(crate::specs::Fields::is_letter))]
 fn is_letter(x: u8) -> bool
     ensures { result ≡ is_letter x }
 {
-    within(65, 90, x as u32) | within(48, 57, x as u32)
+    (65..=90).contains(&x) | (48..=57).contains(&x)
 }
 
 fn are_letters(code: &[u8]) -> bool
     ensures { result ≡ are_letters code.now }
 {
-    code.iter().all(|x| is_letter(*x))
+    code.iter().all(|&x| is_letter(x))
 }
 
 // A group's fields as they stand in its body.
+#[tactic(auto, unfolding(crate::specs::Fields::group_fields, wire::specs::Lists::joined))]
 pub fn group_fields(body: &[u8]) -> Group
     ensures { result ≡ group_fields body.now }
 {
@@ -81,14 +85,15 @@ pub fn group_in_range(g: Group) -> bool
     ensures { result ≡ group_in_range g }
 {
     are_letters(&g.code)
-        & within(1, 2, g.grouping as u32)
-        & within(1, 64, g.k as u32)
-        & is_benchmark(g.benchmark as u64)
-        & within(1, 4095, g.front as u32)
-        & within(0, 4095, g.extra as u32)
+        & (1..=2).contains(&g.grouping)
+        & (1..=64).contains(&g.k)
+        & is_benchmark(u64::from(g.benchmark))
+        & (1..=4095).contains(&g.front)
+        & (0..=4095).contains(&g.extra)
 }
 
 // A firm's fields as they stand in its body.
+#[tactic(auto, unfolding(crate::specs::Fields::firm_fields, wire::specs::Lists::joined))]
 pub fn firm_fields(body: &[u8]) -> Firm
     ensures { result ≡ firm_fields body.now }
 {
@@ -97,6 +102,7 @@ pub fn firm_fields(body: &[u8]) -> Firm
 }
 
 // The three places of a firm's code have letters.
+#[tactic(auto, unfolding(crate::specs::Fields::firm_ok))]
 pub fn firm_ok(firm: Firm) -> bool
     ensures { result ≡ firm_ok firm }
 {
@@ -104,6 +110,7 @@ pub fn firm_ok(firm: Firm) -> bool
 }
 
 // Whether a firm's code is this one, a slice of any length.
+#[tactic(auto, unfolding(crate::specs::Fields::has_code))]
 pub fn has_code(firm: Firm, code: &[u8]) -> bool
     ensures { result ≡ has_code firm code.now }
 {
