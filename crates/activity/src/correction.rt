@@ -22,7 +22,7 @@ const LOTS: usize = 24;
 const ZERO_32: usize = 28;
 
 // What a correction says beside its firm, day and group: the edition, the totals that the cell is set to, and two fields that must be zero.
-#[derive(Clone, Copy)]
+#[derive(Clone, Copy, Debug, PartialEq, Eq)]
 pub struct Correction {
     pub zero16: u16,
     pub edition: u32,
@@ -38,13 +38,14 @@ pub fn is_correction(record: &[u8]) -> bool
 }
 
 // A correction's fields.
+#[tactic(auto, unfolding(crate::specs::Correction::correction_fields))]
 pub fn correction_fields(record: &[u8]) -> Correction
     ensures { result ≡ correction_fields «record».now }
 {
     let totals = Totals {
-        raw: u32_at(record, RAW) as u64,
-        score: u32_at(record, SCORE) as u64,
-        lots: u32_at(record, LOTS) as u64,
+        raw: u64::from(u32_at(record, RAW)),
+        score: u64::from(u32_at(record, SCORE)),
+        lots: u64::from(u32_at(record, LOTS)),
     };
     Correction {
         zero16: u16_at(record, ZERO_16),
@@ -55,6 +56,7 @@ pub fn correction_fields(record: &[u8]) -> Correction
 }
 
 // The zero fields are zero, and the edition is not.
+#[tactic(auto, unfolding(wire::specs::Choose::all))]
 pub fn is_sound(c: Correction) -> bool
     ensures { result ≡ is_sound c }
 {

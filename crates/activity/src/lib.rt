@@ -51,15 +51,7 @@ pub fn is_activity(record: &[u8]) -> bool
 fn count_at(record: &[u8], at: usize) -> u64
     ensures { (result ≡ u32_at «record».now at) × (result < 2 ^ 32) }
 {
-    u32_at(record, at) as u64
-}
-
-// Whether the record has more minimum-quantity orders than these, its new orders and FAK/FOK orders.
-fn minimum_quantity_above(record: &[u8], orders: u64) -> bool
-    requires { orders ≡ new_orders «record».now + fak_fok «record».now }
-    ensures { result ≡ minimum_quantity_impossible «record».now }
-{
-    orders < count_at(record, MINIMUM_QUANTITY)
+    u64::from(u32_at(record, at))
 }
 
 // Document 02, 2.5: more minimum-quantity orders than new orders and FAK/FOK orders together.
@@ -67,7 +59,7 @@ pub fn minimum_quantity_impossible(record: &[u8]) -> bool
     ensures { result ≡ minimum_quantity_impossible «record».now }
 {
     let orders = count_at(record, NEW_ORDERS) + count_at(record, FAK_FOK);
-    minimum_quantity_above(record, orders)
+    orders < count_at(record, MINIMUM_QUANTITY)
 }
 
 // The Program, section 2: the raw message count. FAK and FOK orders are its eliminations.
@@ -95,21 +87,14 @@ fn messaging_score(record: &[u8]) -> u64
     score
 }
 
-// The totals of a record, from its own raw count and score.
-fn with_lots(record: &[u8], raw: u64, scored: u64) -> Totals
-    requires { (raw ≡ raw_count «record».now) × (scored ≡ score «record».now) }
-    ensures { result ≡ totals_of «record».now }
-{
-    Totals {
-        raw,
-        score: scored,
-        lots: count_at(record, LOTS),
-    }
-}
-
 // What an activity record adds to its cell.
+#[tactic(auto, unfolding(crate::specs::Activity::totals_of))]
 pub fn totals_of(record: &[u8]) -> Totals
     ensures { result ≡ totals_of «record».now }
 {
-    with_lots(record, raw_count(record), messaging_score(record))
+    Totals {
+        raw: raw_count(record),
+        score: messaging_score(record),
+        lots: count_at(record, LOTS),
+    }
 }
