@@ -1,10 +1,10 @@
 // A cell, and what a counted record makes of it: activity adds to its totals, a correction replaces it.
 #![tactic(auto)]
 
-ghost use Rattle.std.specs.Prelude.{◌≡◌, ◌+◌, leb};
-ghost use Rattle.rules.specs.Verdict.{limit, fits};
-ghost use Rattle.cell.specs.Cell.{plus};
+ghost use Rattle.std.specs.Prelude.{◌≡◌, ◌+◌, leb, cond, Ok, Err};
+ghost use Rattle.rules.specs.Verdict.{limit};
 ghost use Rattle.refusals.specs.Outcome.{outcome_at_front};
+ghost use Rattle.refusals.specs.declared.Cause.TheVariants as cause;
 ghost use Rattle.cell.specs.Entry.{entry_of};
 ghost use Rattle.cell.specs.Parts.{addition, replacement};
 
@@ -13,63 +13,62 @@ use refusals::Cause;
 use rules::{LIMIT, Totals};
 
 // What is kept of one firm, one group and one day: its totals, and the edition of the correction that set them, 0 where none did.
-#[derive(Clone, Copy)]
+#[derive(Clone, Copy, Debug, Default, PartialEq, Eq)]
 pub struct Cell {
     pub totals: Totals,
     pub edition: u64,
 }
 
-// Whether a total may grow by so much.
-fn has_room(held: u64, more: u64) -> bool
-    ensures { result ≡ leb (held + more) limit }
+// A total that grew by so much, unless that is above the limit.
+fn grown_total(held: u64, more: u64) -> Result<u64, Cause>
+    ensures { result ≡ cond (leb (held + more) limit) (Ok (held + more)) (Err cause.AboveLimit) }
 {
-    held.saturating_add(more) <= LIMIT
-}
-
-// Whether every total of a cell may grow by so much.
-fn can_add(held: Totals, more: Totals) -> bool
-    ensures { result ≡ fits 1 (plus held more) }
-{
-    has_room(held.raw, more.raw) & has_room(held.score, more.score) & has_room(held.lots, more.lots)
-}
-
-// Adds to a cell, unless it was corrected or a total would be above the limit.
-fn add(cell: Cell, more: Totals) -> Result<Cell, Cause>
-    ensures { outcome_at_front result ≡ addition cell more }
-{
-    if 0 < cell.edition {
-        return Err(Cause::Superseded);
-    }
-    let held = cell.totals;
-    if !can_add(held, more) {
+    let total = held.saturating_add(more);
+    if LIMIT < total {
         return Err(Cause::AboveLimit);
     }
-    let totals = Totals {
-        raw: held.raw + more.raw,
-        score: held.score + more.score,
-        lots: held.lots + more.lots,
-    };
-    Ok(Cell { totals, ..cell })
+    Ok(total)
 }
 
-// Replaces a cell, unless the cell's edition is as high or higher.
-fn correct(cell: Cell, new: Correction) -> Result<Cell, Cause>
-    ensures { outcome_at_front result ≡ replacement cell new }
-{
-    let edition = new.edition as u64;
-    if edition <= cell.edition {
-        return Err(Cause::Superseded);
+impl Cell {
+    // Adds to the cell, unless it was corrected or a total would be above the limit.
+    #[tactic(auto, unfolding(wire::specs::Choose::choose, wire::specs::Choose::all))]
+    fn add(self, more: Totals) -> Result<Cell, Cause>
+        ensures { outcome_at_front result ≡ addition self more }
+    {
+        if 0 < self.edition {
+            return Err(Cause::Superseded);
+        }
+        let held = self.totals;
+        let totals = Totals {
+            raw: grown_total(held.raw, more.raw)?,
+            score: grown_total(held.score, more.score)?,
+            lots: grown_total(held.lots, more.lots)?,
+        };
+        Ok(Cell { totals, ..self })
     }
-    let totals = new.totals;
-    Ok(Cell { totals, edition })
+
+    // Replaces the cell, unless its edition is as high or higher.
+    #[tactic(auto, unfolding(wire::specs::Choose::choose))]
+    fn correct(self, new: Correction) -> Result<Cell, Cause>
+        ensures { outcome_at_front result ≡ replacement self new }
+    {
+        let edition = u64::from(new.edition);
+        if edition <= self.edition {
+            return Err(Cause::Superseded);
+        }
+        let totals = new.totals;
+        Ok(Cell { totals, edition })
+    }
 }
 
 // What a counted record makes of its cell: refused by 32 or 18, or the cell after it.
+#[tactic(auto, unfolding(wire::specs::Choose::choose))]
 pub fn entry_of(cell: Cell, record: &[u8]) -> Result<Cell, Cause>
     ensures { outcome_at_front result ≡ entry_of cell «record».now }
 {
     if is_activity(record) {
-        return add(cell, totals_of(record));
+        return cell.add(totals_of(record));
     }
-    correct(cell, correction_fields(record))
+    cell.correct(correction_fields(record))
 }
