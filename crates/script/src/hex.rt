@@ -25,6 +25,7 @@ fn hex_at(bytes: &[u8], i: usize) -> u8
 }
 
 // Writes the text of the bytes over the front of an array, as much of it as there is room for, and answers how much.
+#[tactic(auto, using(wire::proofs::Lists::table_write), unfolding(wire::specs::Lists::joined))]
 pub fn put_hex(bytes: &[u8], text: &mut [u8]) -> usize
     ensures prefix_len { IsPrefixLen result text.new }
     ensures value { result ≡ hex_room bytes.now text.old }

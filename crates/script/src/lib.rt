@@ -7,4 +7,4 @@ mod script;
 
 pub use digest::digest_of;
 pub use hex::put_hex;
-pub use script::{Piece, bytes_of, past, piece_at, u64_at};
+pub use script::Script;

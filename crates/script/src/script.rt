@@ -1,42 +1,79 @@
-// Places in a script, and the operands of its commands. Past the script's end stand zeros.
-ghost use Rattle.std.specs.Prelude.{◌≡◌, ◌-◌, take, drop};
-ghost use Rattle.script.specs.Script.{u64_at, past_in, piece_at};
+// A script that is read from its front on. Past its end stand zeros.
+ghost use Rattle.std.specs.Prelude.{◌≡◌, ◌≤◌, length, get_or, IsTrue, ◌↔◌};
+ghost use Rattle.wire.specs.Bytes.{u32_at};
+ghost use Rattle.script.specs.Script.{u64_at, piece_at, bytes_on, piece_on};
 
-use wire::{bytes_at, tail, u32_at};
+use wire::{byte_at, bytes_at, tail, u32_at};
 
-// A run of the script's bytes: its first place, and the place after its last.
-#[derive(Clone, Copy)]
-pub struct Piece {
-    pub start: usize,
-    pub end: usize,
+// The bytes of a script, and the place of the next one to read.
+#[derive(Clone, Copy, Debug)]
+pub struct Script<'a> {
+    pub bytes: &'a [u8],
+    pub at: usize,
 }
 
-// The place n bytes on, and no further than the script's end; a place past the end stays.
-pub fn past(script: &[u8], at: usize, n: usize) -> usize
-    ensures { result ≡ past_in script.now at n }
-{
-    at + n.min(script.len().saturating_sub(at))
-}
+impl<'a> Script<'a> {
+    // A script of which nothing was read.
+    pub fn new(bytes: &'a [u8]) -> Self
+        ensures bytes { result.bytes.now ≡ bytes.now }
+        ensures at { result.at ≡ 0 }
+    {
+        Script { bytes, at: 0 }
+    }
 
-// The number of eight bytes at a place.
-pub fn u64_at(script: &[u8], at: usize) -> u64
-    ensures { result ≡ u64_at script.now at }
-{
-    u64::from_le_bytes(bytes_at(script, at))
-}
+    // No byte is left to read.
+    pub fn is_done(&self) -> bool
+        ensures { IsTrue result ↔ (length self.now.bytes.now ≤ self.now.at) }
+    {
+        self.bytes.len() <= self.at
+    }
 
-// The piece at a place: its size in four bytes, then its own bytes, which the script's end may cut.
-pub fn piece_at(script: &[u8], at: usize) -> Piece
-    ensures { result ≡ piece_at script.now at }
-{
-    let start = past(script, at, 4);
-    let end = past(script, start, u32_at(script, at) as usize);
-    Piece { start, end }
-}
+    // Moves n bytes on, and no further than the script's end; a place past the end stays.
+    fn skip(&mut self, n: usize)
+        ensures { self.new ≡ bytes_on self.old n }
+    {
+        self.at += n.min(self.bytes.len().saturating_sub(self.at));
+    }
 
-// The bytes of a piece, as many of them as the script has.
-pub fn bytes_of(script: &[u8], piece: Piece) -> &[u8]
-    ensures { result.now ≡ take (piece.end - piece.start) (drop piece.start script.now) }
-{
-    tail(&script[..piece.end.min(script.len())], piece.start)
+    // Reads a byte.
+    pub fn byte(&mut self) -> u8
+        ensures value { result ≡ get_or self.old.bytes.now self.old.at 0 }
+        ensures after { self.new ≡ bytes_on self.old 1 }
+    {
+        let n = byte_at(self.bytes, self.at);
+        self.skip(1);
+        n
+    }
+
+    // Reads a number of four bytes.
+    pub fn u32(&mut self) -> u32
+        ensures value { result ≡ u32_at self.old.bytes.now self.old.at }
+        ensures after { self.new ≡ bytes_on self.old 4 }
+    {
+        let n = u32_at(self.bytes, self.at);
+        self.skip(4);
+        n
+    }
+
+    // Reads a number of eight bytes.
+    #[tactic(auto, unfolding(wire::specs::Bytes::u16_at, wire::specs::Bytes::u32_at, wire::specs::Lists::joined, crate::specs::Script::u64_at))]
+    pub fn u64(&mut self) -> u64
+        ensures value { result ≡ u64_at self.old.bytes.now self.old.at }
+        ensures after { self.new ≡ bytes_on self.old 8 }
+    {
+        let n = u64::from_le_bytes(bytes_at(self.bytes, self.at));
+        self.skip(8);
+        n
+    }
+
+    // Reads a piece: its size in four bytes, then its own bytes, which the script's end may cut.
+    pub fn piece(&mut self) -> &'a [u8]
+        ensures value { result.now ≡ piece_at self.old.bytes.now self.old.at }
+        ensures after { self.new ≡ piece_on self.old }
+    {
+        let size = self.u32();
+        let start = self.at;
+        self.skip(size as usize);
+        tail(&self.bytes[..self.at.min(self.bytes.len())], start)
+    }
 }
