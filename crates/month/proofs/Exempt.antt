@@ -13,10 +13,15 @@ use Rattle.wire.specs.Sums.{sum, count}
 use Rattle.wire.proofs.Bools.{and_left, and_right, cond_le, cond_where, range}
 use Rattle.wire.proofs.Choose.{every, none_at}
 use Rattle.wire.proofs.Sums.{sum_more, sum_le, sum_most, sum-cost}
-use Rattle.rules.specs.Verdict.{version96, is_violation, limit, fits, is_benchmark, days_verdict}
+use Rattle.rules.specs.Verdict.{version96, not_judged, is_violation, limit, fits, is_benchmark, days_verdict, days_meaning}
 use Rattle.rules.specs.Month.{Terms, DailyTotals, counted, over_counted, days, sums, exempt}
 use Rattle.rules.specs.Marks.{places, day_of, group_of, verdict_at}
+use Rattle.rules.specs.declared.NoVerdict.{NoVerdict}
+use Rattle.rules.specs.declared.NoVerdict.TheVariants as none
 use Rattle.rules.specs.declared.Totals.{Totals}
+use Rattle.rules.specs.declared.Verdict.{Verdict}
+use Rattle.std.specs.Prelude.{Result, Ok, Err}
+use Rattle.std.specs.Result.{result_unwrap_or}
 use Rattle.rules.proofs.Codes.{Fitting, fitting, exempt_code, days-decided}
 use Rattle.calendar.specs.Calendar.{days_in, in_effect}
 use Rattle.lookup.specs.Lookup.{group_at}
@@ -30,6 +35,12 @@ use Rattle.book.specs.Book.{cells, totals_in}
 use Rattle.month.specs.Month.{terms, is_excess, any_excess}
 use Rattle.month.specs.Parts.{Sound, Within, with_day, sums_to, verdict_in}
 use Rattle.month.specs.declared.days.MonthSums.{MonthSums}
+
+-- the verdict that is told, or that nothing is judged
+pub verdict_told : (r : Result Verdict NoVerdict) {v : Verdict} → v ≡ result_unwrap_or r not_judged → v ≡ verdict_in (days_meaning r)
+verdict_told (Ok v) e = e
+verdict_told (Err none.Refused) e = e
+verdict_told (Err none.TooManyDays) e = e
 
 -- a cell of a day in effect stands at one of the places that 22 looks at
 module _ (S : List ℕ) {l : Layout} (c : FirmCells) (ok : Sound S l c) (g day : ℕ) (h : g < 32) (on : in_effect l.month l.closed day ≡ true) where
@@ -66,10 +77,15 @@ day_more : (t : Bool) (s : MonthSums) (a : Totals)
 day_more true s a = refl
 day_more false s a = simp add-zero
 
+-- sums that are nothing, number by number
+zeros : (raw score lots days : ℕ) → raw ≡ 0 → score ≡ 0 → lots ≡ 0 → days ≡ 0
+    → ◌≡◌ {A = MonthSums} (record { raw = raw; score = score; lots = lots; days = days }) (record { raw = 0; score = 0; lots = 0; days = 0 })
+zeros raw score lots days a b c d = rw (a, b, c, d) refl
+
 module _ (s : Terms) (c : DailyTotals) (g : ℕ) where
-  pub sums_none : sums_to s c g 0 ≡ record { raw = 0; score = 0; lots = 0; days = 0 }
+  pub sums_none : (z : MonthSums) → (z.raw ≡ 0) × ((z.score ≡ 0) × ((z.lots ≡ 0) × (z.days ≡ 0))) → z ≡ sums_to s c g 0
   unfolding sums_to sum
-  sums_none = refl
+  sums_none z e = zeros z.raw z.score z.lots z.days e.0 e.1.0 e.1.1.0 e.1.1.1
 
   pub sums_more : (n : ℕ) → sums_to s c g (n + 1) ≡ cond (counted s c g (n + 1)) (with_day (sums_to s c g n) (c g (n + 1))) (sums_to s c g n)
   unfolding sums_to

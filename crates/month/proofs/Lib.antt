@@ -1,3 +1,4 @@
 pub mod Exempt
 pub mod Waivers
 pub mod Answers
+pub mod Calls

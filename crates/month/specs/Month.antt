@@ -14,6 +14,7 @@ use Rattle.lookup.specs.InForce.{rules_of}
 use Rattle.lookup.specs.declared.Layout.{Layout}
 use Rattle.cell.specs.Cell.{is_within, FirmCells, cell_totals}
 use Rattle.book.specs.Book.{cells, check_book}
+use Rattle.month.specs.declared.GroupMonth.{GroupMonth}
 use Rattle.month.specs.declared.Month.{Month}
 
 -- Records: what the schedule says of the month, its days in effect and its groups' benchmarks and exchange groupings
@@ -63,23 +64,20 @@ month_answer S B C = follow (check_book S (length B)) (λ l. asked (month_causes
 abbrev pub starts_of : (S : List ℕ) → Layout → List ℕ
 starts_of S l = table most_groups (group_start S l.first)
 
--- the groups' exchange groupings
-abbrev pub groupings_of : (S : List ℕ) → Layout → List ℕ
-groupings_of S l = table most_groups (λ g. (group_at S l g).grouping)
+-- a group in a month: where it stands, its exchange grouping, and whether it is exempt, for the totals c
+abbrev pub group_month : (S : List ℕ) → Layout → DailyTotals → (g : ℕ) → GroupMonth
+group_month S l c g = record { start = group_start S l.first g; grouping = (group_at S l g).grouping; exempt = exempt (rules_of S) (terms S l) c g }
 
--- the groups' exemptions, for the totals c
-abbrev pub exempts_of : (S : List ℕ) → Layout → DailyTotals → List Bool
-exempts_of S l c = table most_groups (exempt (rules_of S) (terms S l) c)
+-- the groups by their places
+abbrev pub groups_of : (S : List ℕ) → Layout → DailyTotals → List GroupMonth
+groups_of S l c = table most_groups (group_month S l c)
 
 -- a firm's month as it is held, for the totals c: place by place and group by group
 pub record HeldMonth (S : List ℕ) (l : Layout) (c : DailyTotals) (m : Month) : Type 0 where
   pub layout : m.layout ≡ l
-  pub starts : m.starts ≡ starts_of S l
-  pub groupings : m.groupings ≡ groupings_of S l
-  pub codes : m.codes ≡ table places (λ i. ((month_of S l c).verdict i).code)
+  pub groups : m.groups ≡ groups_of S l c
   -- 2.1: what uses a verdict passes the factor on
-  pub factors : m.factors ≡ table places (λ i. ((month_of S l c).verdict i).factor)
-  pub exempts : m.exempts ≡ exempts_of S l c
+  pub verdicts : m.verdicts ≡ table places (month_of S l c).verdict
   pub marks : m.marks ≡ table places (mark (rules_of S) (month_of S l c))
 
 -- what the call's answer means: a refusal, or what the schedule holds

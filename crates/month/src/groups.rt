@@ -2,12 +2,15 @@
 ghost use Rattle.std.specs.Prelude.{◌≡◌, ◌<◌};
 ghost use Rattle.rules.specs.Marks.{most_groups};
 ghost use Rattle.lookup.specs.Lookup.{group_at};
-ghost use Rattle.month.specs.Month.{starts_of, groupings_of};
+ghost use Rattle.book.specs.Book.{totals_in};
+ghost use Rattle.month.specs.Month.{starts_of, group_month, groups_of};
 
+use crate::GroupMonth;
 use crate::firm::FirmBook;
 use lookup::{Layout, group_at};
 use records::Group;
 use rules::GROUPS;
+use std::array;
 use wire::u16_at;
 
 // Where the groups stand in the schedule. Past the last group the places mean nothing, and no verdict goes by them.
@@ -32,14 +35,22 @@ impl FirmBook<'_> {
         group_at(self.schedule, self.starts[g])
     }
 
-    // The groups' exchange groupings.
-    pub(crate) fn groupings(&self) -> [u8; GROUPS]
-        ensures { result ≡ groupings_of self.now.schedule.now self.now.layout }
+    // Group g in the firm's month.
+    fn group_month(&self, g: usize) -> GroupMonth
+        requires { g < most_groups }
+        ensures { result ≡ group_month self.now.schedule.now self.now.layout (totals_in self.now.layout.groups self.now.book.now self.now.firm) g }
     {
-        let mut groupings = [0; GROUPS];
-        for (g, grouping) in groupings.iter_mut().enumerate() {
-            *grouping = self.group(g).grouping;
+        GroupMonth {
+            start: self.starts[g],
+            grouping: self.group(g).grouping,
+            exempt: self.is_exempt(g),
         }
-        groupings
+    }
+
+    // The groups by their places.
+    pub(crate) fn groups(&self) -> [GroupMonth; GROUPS]
+        ensures { result ≡ groups_of self.now.schedule.now self.now.layout (totals_in self.now.layout.groups self.now.book.now self.now.firm) }
+    {
+        array::from_fn(|g| self.group_month(g))
     }
 }

@@ -15,20 +15,24 @@ use days::has_excess;
 use firm::FirmBook;
 use groups::group_starts;
 use lookup::{Layout, find_firm, rules_of};
-use marks::give_marks;
+use marks::{codes_of, give_marks};
 use refusals::{Cause, Refusal};
-use rules::{GROUPS, PLACES};
+use rules::{GROUPS, PLACES, Verdict};
 
-// What the schedule holds; where the groups stand, and their exchange groupings; of each place (day by day, in each day group by group) its
-// code, the factor of its tier and its mark; of each group whether it is exempt.
+// A group in a firm's month: where it stands in the schedule, its exchange grouping, and whether it is exempt.
+#[derive(Clone, Copy, Debug, PartialEq, Eq)]
+pub struct GroupMonth {
+    pub start: usize,
+    pub grouping: u8,
+    pub exempt: bool,
+}
+
+// What the schedule holds; its groups; of each place (day by day, in each day group by group) the verdict and the mark.
 #[derive(Clone, Copy)]
 pub struct Month {
     pub layout: Layout,
-    pub starts: [usize; GROUPS],
-    pub groupings: [u8; GROUPS],
-    pub codes: [u8; PLACES],
-    pub factors: [u8; PLACES],
-    pub exempts: [bool; GROUPS],
+    pub groups: [GroupMonth; GROUPS],
+    pub verdicts: [Verdict; PLACES],
     pub marks: [u8; PLACES],
 }
 
@@ -36,19 +40,13 @@ pub struct Month {
 fn judged_month(firm: &FirmBook) -> Month
     ensures { HeldMonth firm.now.schedule.now firm.now.layout (totals_in firm.now.layout.groups firm.now.book.now firm.now.firm) result }
 {
-    let groupings = firm.groupings();
+    let groups = firm.groups();
     let verdicts = firm.verdicts();
-    let codes = verdicts.codes;
-    let factors = verdicts.factors;
-    let exempts = firm.exempts();
-    let marks = give_marks(rules_of(firm.schedule), codes, &exempts, &groupings);
+    let marks = give_marks(rules_of(firm.schedule), codes_of(&verdicts), &groups);
     Month {
         layout: firm.layout,
-        starts: firm.starts,
-        groupings,
-        codes,
-        factors,
-        exempts,
+        groups,
+        verdicts,
         marks,
     }
 }

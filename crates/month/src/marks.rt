@@ -2,10 +2,10 @@
 ghost use Rattle.std.specs.Prelude.{cond, ◌≡◌, ◌+◌, ◌≤◌, ◌<◌, eqb};
 ghost use Rattle.wire.specs.Lists.{table};
 ghost use Rattle.rules.specs.Marks.{places, mark_of, mark};
-ghost use Rattle.month.specs.Parts.{held, Grouped};
+ghost use Rattle.month.specs.Parts.{held, held_code, Grouped};
 
-use rules::{GROUPS, PLACES, Rules, is_violation};
-use wire::bit;
+use crate::GroupMonth;
+use rules::{GROUPS, PLACES, Rules, Verdict, is_violation};
 
 // The mark of a code, where so many were left before it in its exchange grouping.
 fn mark_of(p: Rules, code: u8, exempt: bool, before: u16) -> u8
@@ -27,7 +27,7 @@ fn mark_of(p: Rules, code: u8, exempt: bool, before: u16) -> u8
 }
 
 // How many were left so far in each exchange grouping.
-#[derive(Clone, Copy)]
+#[derive(Clone, Copy, Debug, PartialEq, Eq, Default)]
 struct Left {
     first: u16,
     second: u16,
@@ -64,28 +64,32 @@ impl Left {
     }
 }
 
+// The codes of the places.
+pub(crate) fn codes_of(verdicts: &[Verdict; PLACES]) -> [u8; PLACES]
+    ensures { result ≡ table places (held_code verdicts.now) }
+{
+    let mut codes = [0; PLACES];
+    for (i, code) in codes.iter_mut().enumerate() {
+        *code = verdicts[i].code;
+    }
+    codes
+}
+
 // Turns the codes of the places into marks.
 pub(crate) fn give_marks(
     p: Rules,
     mut marks: [u8; PLACES],
-    exempts: &[bool; GROUPS],
-    groupings: &[u8; GROUPS],
+    groups: &[GroupMonth; GROUPS],
 ) -> [u8; PLACES]
-    requires { Grouped (held marks exempts.now groupings.now) }
-    ensures { result ≡ table places (mark p (held marks exempts.now groupings.now)) }
+    requires { Grouped (held marks groups.now) }
+    ensures { result ≡ table places (mark p (held marks groups.now)) }
 {
-    let mut left = Left {
-        first: 0,
-        second: 0,
-    };
+    let mut left = Left::default();
     for i in 0..PLACES {
-        let g = i % GROUPS;
         let code = marks[i];
-        let exempt = exempts[g];
-        let grouping = groupings[g];
-        let before = left.count_in(grouping);
-        marks[i] = mark_of(p, code, exempt, before);
-        left = left.with_count(grouping, bit((code == 4) & !exempt) as u16);
+        let group = groups[i % GROUPS];
+        marks[i] = mark_of(p, code, group.exempt, left.count_in(group.grouping));
+        left = left.with_count(group.grouping, u16::from((code == 4) & !group.exempt));
     }
     marks
 }

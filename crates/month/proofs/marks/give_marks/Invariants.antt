@@ -8,7 +8,7 @@ use Rattle.month.proofs.marks.give_marks.Given as goal
 
 abbrev pub invariant-loop-i : goal.invariant-loop-i
 invariant-loop-i l =
-    let j = held l.initial.marks l.exempts l.groupings in
+    let j = held l.initial.marks l.groups in
     record {
       marked : l.marks ≡ over (table l.i (mark l.p j)) l.initial.marks;
       first : l.left.first ≡ count l.i (left_in j 1);

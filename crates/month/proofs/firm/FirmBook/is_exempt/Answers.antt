@@ -9,7 +9,7 @@ use Rattle.book.specs.Book.{totals_in}
 use Rattle.month.specs.Month.{terms}
 use Rattle.month.specs.Parts.{sums_to, verdict_in}
 use Rattle.month.specs.declared.days.MonthSums.{MonthSums}
-use Rattle.month.proofs.Exempt.{counted_fits, exempt_verdict, exempt_past}
+use Rattle.month.proofs.Exempt.{counted_fits, verdict_told, exempt_verdict, exempt_past}
 use Rattle.month.proofs.firm.FirmBook.is_exempt.Goals as goal
 
 pub returns-then-self-g : goal.returns-then-self-g
@@ -30,6 +30,6 @@ returns c =
     ∙ ap₂ (λ (s : MonthSums) B. verdict_in (days_verdict s.days (record { raw = s.raw; score = s.score; lots = s.lots }) B))
     c.month_sums-s.ensures (ap (λ g. g.benchmark) c.group-benchmark.ensures) in
     let benchmark = (group-listed s.schedule.now s.sound.checked g c.if-self-g.false).benchmark in
-    ap not (c.is_violation.ensures ∙ ap (λ v. is_violation v.code) c.verdict_of.ensures)
+    ap not (c.is_violation.ensures ∙ ap (λ v. is_violation v.code) (verdict_told c.days_verdict.result c.unwrap_or-verdict.ensures))
     ∙ ap (λ v. not (is_violation v.code)) decided
     ∙ sym (exempt_verdict t traffic g fit benchmark)

@@ -1,5 +1,5 @@
 -- The sums are those of the days so far. A counted day is in effect, so its totals are within the limit, and no sum overflows.
-use Rattle.std.proofs.Common.{◌≡◌, ◌+◌, refl, arith}
+use Rattle.std.proofs.Common.{◌≡◌, ◌+◌, arith}
 use Rattle.rules.specs.Month.{DailyTotals}
 use Rattle.book.specs.Book.{totals_in}
 use Rattle.month.specs.Month.{terms}
@@ -18,7 +18,7 @@ with_cell-sums-requires c =
     }
 
 pub loop-d-init : goal.loop-d-init
-loop-d-init c = rw sums_none refl
+loop-d-init c = sums_none _ _ _ c.default-sums.result c.default-sums.ensures
 
 pub loop-d-preserved : goal.loop-d-preserved
 loop-d-preserved c = rw (c.with_cell-sums.ensures, c.in_effect.ensures, c.cell_in.ensures, c.loop-d.invariant, sums_more)

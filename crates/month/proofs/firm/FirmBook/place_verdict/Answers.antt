@@ -7,7 +7,7 @@ use Rattle.rules.specs.Verdict.{days_verdict}
 use Rattle.cell.specs.declared.Cell.{Cell}
 use Rattle.book.specs.Book.{cells}
 use Rattle.month.specs.Parts.{verdict_in}
-use Rattle.month.proofs.Exempt.{verdict_place}
+use Rattle.month.proofs.Exempt.{verdict_told, verdict_place}
 use Rattle.month.proofs.firm.FirmBook.place_verdict.Goals as goal
 
 pub returns-then-not-g-l : goal.returns-then-not-g-l
@@ -19,7 +19,7 @@ pub returns : goal.returns
 returns c =
     let s = c.args.self.now in
     let listed = sym (ap (λ b. ltb (c.args.i % 32) s.layout.groups && b) c.in_effect.ensures) ∙ c.if-not-g-l.false in
-    c.verdict_of.ensures
+    verdict_told c.days_verdict.result c.unwrap_or.ensures
     ∙ ap verdict_in c.days_verdict.ensures
     ∙ ap₂ (λ t B. verdict_in (days_verdict 1 t B)) (ap (λ (e : Cell). e.totals) c.cell_in.ensures) (ap (λ g. g.benchmark) c.group-benchmark.ensures)
     ∙ verdict_place s.schedule.now (cells s.layout.groups s.book.now s.firm) s.sound c.args.i listed
