@@ -39,6 +39,7 @@ fn due_length(record: &[u8]) -> usize
 }
 
 // The causes 11 to 13.
+#[tactic(auto, unfolding(wire::specs::Choose::choose))]
 fn check_form(record: &[u8]) -> Result<(), Cause>
     ensures { cause_number result ≡ choose (form_causes «record».now) 0 }
 {
@@ -56,6 +57,7 @@ fn check_form(record: &[u8]) -> Result<(), Cause>
 }
 
 // The cause 31.
+#[tactic(auto, unfolding(wire::specs::Choose::choose))]
 fn check_fields(record: &[u8]) -> Result<(), Cause>
     ensures { cause_number result ≡ choose (field_causes «record».now) 0 }
 {

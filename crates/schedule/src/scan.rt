@@ -102,6 +102,7 @@ impl Kind {
         }
     }
 
+    #[tactic(auto, using(lookup::proofs::Laws::some_found), unfolding(crate::specs::Check::is_repeated, lookup::specs::Lookup::group_found, lookup::specs::Lookup::firm_found,),)]
     fn is_repeated(self, before: &Schedule, body: &[u8]) -> bool
         ensures { result ≡ is_repeated self before.now.bytes.now before.now.layout body.now }
     {
@@ -153,7 +154,7 @@ impl Scan<'_> {
     }
 
     // What its length field says.
-    fn len(&self) -> u16
+    fn length(&self) -> u16
         ensures { result ≡ length_at self.now.bytes.now self.now.place.at }
     {
         u16_at(self.bytes, self.place.at)
@@ -172,7 +173,7 @@ impl Scan<'_> {
         if !kind.is_due(self.place) {
             return Err(Cause::NotDue);
         }
-        let len = usize::from(self.len());
+        let len = usize::from(self.length());
         if !kind.length_ok(len) {
             return Err(Cause::WrongLength);
         }
@@ -206,6 +207,7 @@ impl Scan<'_> {
     }
 
     // The first cause that refuses it.
+    #[tactic(auto, unfolding(crate::specs::Check::cause, wire::specs::Choose::choose))]
     fn check_record(&self) -> Result<(), Cause>
         ensures { cause_number result ≡ cause self.now.bytes.now self.now.place }
     {
@@ -218,7 +220,7 @@ impl Scan<'_> {
         ensures { result ≡ after self.now.bytes.now self.now.place }
     {
         let at = self.place.at;
-        let next = at + usize::from(self.len());
+        let next = at + usize::from(self.length());
         let held = self
             .kind()
             .with_record(body_at(self.bytes, at), next, self.place.held);
