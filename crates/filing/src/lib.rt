@@ -78,6 +78,7 @@ fn status_at(schedule: &Schedule, at: usize, record: &[u8]) -> Status
 }
 
 // The causes 16 and 17, and whether the record is counted, where its firm and its group were found.
+#[tactic(auto, unfolding(crate::specs::Filing::filing_by, wire::specs::Choose::choose))]
 fn file_found(
     schedule: &Schedule,
     record: &[u8],
@@ -107,6 +108,7 @@ fn file_found(
 }
 
 // The causes 14 to 17, and whether the record is counted.
+#[tactic(auto, unfolding(crate::specs::Filing::filing_by, lookup::specs::Lookup::firm_found, wire::specs::Choose::choose,),)]
 fn file_listed(schedule: &Schedule, record: &[u8]) -> Result<Filed, Cause>
     requires { 7 ≤ length «record».now }
     ensures { filed_meaning result ≡ filing_by schedule.now.bytes.now schedule.now.layout «record».now (list_causes schedule.now.bytes.now schedule.now.layout «record».now) }
@@ -121,6 +123,7 @@ fn file_listed(schedule: &Schedule, record: &[u8]) -> Result<Filed, Cause>
 }
 
 // How the schedule takes a record: refused by one of 11 to 17 with 31 after 13, outside, or where its cell is.
+#[tactic(auto, unfolding(crate::specs::Filing::filing_by, wire::specs::Choose::choose))]
 pub fn file(schedule: &Schedule, record: &[u8]) -> Result<Filed, Cause>
     ensures { filed_meaning result ≡ filing_of schedule.now.bytes.now schedule.now.layout «record».now }
 {

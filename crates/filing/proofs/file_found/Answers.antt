@@ -20,11 +20,6 @@ module _ (G R : List ℕ) {t : Taken} (e : t ≡ contract_taken G R) where
   taken : says_listed t ≡ true → cond (is_activity R) (contract_counted G (contract_of R)) true ≡ says_counted t
   taken h = sym (taken_counted G R (ap says_listed (sym e) ∙ h)) ∙ ap says_counted (sym e)
 
-pub returns-then-not-has_day : goal.returns-then-not-has_day
-returns-then-not-has_day c =
-    let past = rw c.byte_at-day.ensures at (sym c.has_day.ensures ∙ c.if-not-has_day.true) in
-    is-refused _ _ _ _ (chosen (here (ap not past))) (λ z. omega arith)
-
 pub returns-in-Unlisted : goal.returns-in-Unlisted
 returns-in-Unlisted c =
     let in_month = rw c.byte_at-day.ensures at (sym c.has_day.ensures ∙ c.if-not-has_day.false) in

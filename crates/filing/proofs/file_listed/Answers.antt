@@ -4,7 +4,7 @@ use Rattle.wire.specs.Choose.{choose}
 use Rattle.wire.specs.Lists.{joined}
 use Rattle.wire.proofs.Choose.{here, next, chosen}
 use Rattle.lookup.specs.Lookup.{firm_listed, group_listed}
-use Rattle.lookup.proofs.Laws.{firm-found, firm_unlisted, group-found, group_placed, group_unlisted}
+use Rattle.lookup.proofs.Laws.{firm-found, group-found, group_placed, group_unlisted}
 use Rattle.filing.specs.Causes.{list_causes}
 use Rattle.filing.specs.Filing.{filing_by}
 use Rattle.filing.proofs.Told.{is-refused}
@@ -16,9 +16,6 @@ file_found-requires c =
     let f = firm-found _ _ _ c.in-Some.ensures in
     let e = rw c.bytes_at.ensures at c.in-Some-find_group.ensures in
     record { firm_is = sym f.first; group_is = group_placed _ _ _ e }
-
-pub returns-in_default : goal.returns-in_default
-returns-in_default c = is-refused _ _ _ _ (chosen (here (ap not (firm_unlisted _ _ _ c.in_default.ensures)))) (λ z. omega arith)
 
 pub returns-in_default-find_group : goal.returns-in_default-find_group
 unfolding firm_listed joined
