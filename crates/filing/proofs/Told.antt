@@ -1,48 +1,19 @@
 -- How a record is taken goes by the first cause that refuses it and by whether it is counted, and tells both.
 use Prim.Native.Nat.{ℕ}
-use mathlib.Core.Bool.{Bool, true, false, cond, not, ◌&&◌}
+use mathlib.Core.Bool.{Bool, true, false, cond}
 use mathlib.Core.List.{List}
-use mathlib.Core.Path.{◌≡◌, refl, sym, ap, ◌∙◌}
+use mathlib.Core.Path.{◌≡◌, refl}
 use lib.Dec.{eqb}
 use borrow.Author.Tests.{eqb-true, eqb-false, ne_eqb}
 use Rattle.wire.specs.Choose.{choose}
-use Rattle.contracts.specs.Counted.{counted, contract_listed, contract_counted, status_of}
-use Rattle.contracts.proofs.Statuses.{says_listed, says_counted, status_listed, status_counted}
 use Rattle.lookup.specs.declared.Layout.{Layout}
-use Rattle.activity.specs.Activity.{is_activity, contract_of}
 use Rattle.filing.specs.Causes.{firm_place_of, group_place_of, is_counted_record}
-use Rattle.filing.specs.Filing.{Filing, refused_by, is_outside, counted_in, contract_taken, filing_by}
-
--- how a group takes a record's contract tells whether 17 refuses it and whether it is counted
-module _ (G R : List ℕ) where
-  pub taken_listed : not (says_listed (contract_taken G R)) ≡ (is_activity R && not (contract_listed G (contract_of R)))
-  taken_listed = go (is_activity R)
-    where
-      go : (b : Bool) → not (says_listed (cond b (status_of G (contract_of R)) counted)) ≡ (b && not (contract_listed G (contract_of R)))
-      go true = ap not (status_listed G (contract_of R))
-      go false = refl
-
-  pub taken_counted : says_listed (contract_taken G R) ≡ true → says_counted (contract_taken G R) ≡ cond (is_activity R) (contract_counted G (contract_of R)) true
-  taken_counted = go (is_activity R)
-    where
-      go : (b : Bool) → says_listed (cond b (status_of G (contract_of R)) counted) ≡ true
-          → says_counted (cond b (status_of G (contract_of R)) counted) ≡ cond b (contract_counted G (contract_of R)) true
-      go true e = status_counted G (contract_of R) (sym (status_listed G (contract_of R)) ∙ e)
-      go false e = refl
+use Rattle.filing.specs.Filing.{Filing, refused_by, is_outside, counted_in, filing_by}
 
 module _ (S : List ℕ) (l : Layout) (R : List ℕ) (cs : List (Bool × ℕ)) where
   pub is-refused : {n : ℕ} → choose cs 0 ≡ n → (n ≡ 0 → ⊥) → refused_by n ≡ filing_by S l R cs
   unfolding filing_by
   is-refused {n} e some = rw (e, ne_eqb n 0 some)
-
-  pub is-outside : choose cs 0 ≡ 0 → is_counted_record S l R ≡ false → is_outside ≡ filing_by S l R cs
-  unfolding filing_by
-  is-outside e k = rw (e, k)
-
-  pub is-counted : {f g : ℕ} → choose cs 0 ≡ 0 → is_counted_record S l R ≡ true → f ≡ firm_place_of S l R → g ≡ group_place_of S l R
-      → counted_in f g ≡ filing_by S l R cs
-  unfolding filing_by
-  is-counted e k p q = rw (e, k, p, q)
 
   -- what a refusal tells
   pub record Stopped (n : ℕ) : Type 0 where

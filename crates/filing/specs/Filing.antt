@@ -6,7 +6,7 @@ use Rattle.wire.specs.Choose.{choose}
 use Rattle.refusals.specs.Outcome.{number_of}
 use Rattle.refusals.specs.declared.Cause.{Cause}
 use Rattle.contracts.specs.Counted.{Taken, counted, status_of}
-use Rattle.lookup.specs.Lookup.{group_found_at}
+use Rattle.lookup.specs.Lookup.{group_start}
 use Rattle.lookup.specs.declared.GroupPlace.{GroupPlace}
 use Rattle.lookup.specs.declared.Layout.{Layout}
 use Rattle.activity.specs.Activity.{is_activity, contract_of}
@@ -44,4 +44,5 @@ module _ (S : List ℕ) (l : Layout) (R : List ℕ) where
   -- the record's firm and group were found: their places, and where the group's record stands
   pub record FoundIs (firm : ℕ) (group : GroupPlace) : Type 0 where
     pub firm_is : firm ≡ firm_place_of S l R
-    pub group_is : group ≡ group_found_at S l (group_place_of S l R)
+    pub group_is : group.index ≡ group_place_of S l R
+    pub offset_is : group.offset ≡ group_start S l.first (group_place_of S l R)

@@ -78,7 +78,7 @@ fn status_at(schedule: &Schedule, at: usize, record: &[u8]) -> Status
 }
 
 // The causes 16 and 17, and whether the record is counted, where its firm and its group were found.
-#[tactic(auto, unfolding(crate::specs::Filing::filing_by, wire::specs::Choose::choose))]
+#[tactic(auto, unfolding(crate::specs::Filing::filing_by, contracts::specs::Counted::status_of, wire::specs::Choose::choose))]
 fn file_found(
     schedule: &Schedule,
     record: &[u8],
@@ -108,7 +108,7 @@ fn file_found(
 }
 
 // The causes 14 to 17, and whether the record is counted.
-#[tactic(auto, unfolding(crate::specs::Filing::filing_by, lookup::specs::Lookup::firm_found, wire::specs::Choose::choose,),)]
+#[tactic(auto, unfolding(crate::specs::Filing::filing_by, lookup::specs::Lookup::firm_found, lookup::specs::Lookup::group_found, wire::specs::Choose::choose, wire::specs::Lists::joined))]
 fn file_listed(schedule: &Schedule, record: &[u8]) -> Result<Filed, Cause>
     requires { 7 ≤ length «record».now }
     ensures { filed_meaning result ≡ filing_by schedule.now.bytes.now schedule.now.layout «record».now (list_causes schedule.now.bytes.now schedule.now.layout «record».now) }
