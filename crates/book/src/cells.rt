@@ -55,22 +55,12 @@ pub(crate) fn cell_at(book: &[u64], at: usize) -> Cell
     }
 }
 
-// A cell as open leaves it.
-const EMPTY: Cell = Cell {
-    totals: Totals {
-        raw: 0,
-        score: 0,
-        lots: 0,
-    },
-    edition: 0,
-};
-
 // A firm's cell: empty past the groups, and on a day outside 1 to 31.
 pub fn cell_in(book: &[u64], groups: u8, firm: u8, group: u8, day: u8) -> Cell
     ensures { result ≡ cells groups book.now firm group day }
 {
     if !((group < groups) & within(1, 31, day as u32)) {
-        return EMPTY;
+        return Cell::default();
     }
     cell_at(book, cell_index(groups, firm, group, day))
 }
@@ -88,6 +78,7 @@ pub(crate) fn store_cell(book: &mut [u64], at: usize, cell: Cell)
 }
 
 // The schedule and the size of a book: refused by 1 to 8, or what the schedule holds.
+#[tactic(auto, unfolding(crate::specs::Book::check_book))]
 pub fn check_book(schedule: &[u8], numbers: usize) -> Result<Layout, Refusal>
     ensures { outcome result ≡ check_book schedule.now numbers }
 {

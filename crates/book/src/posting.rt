@@ -30,6 +30,7 @@ fn enter(book: &mut [u64], at: usize, record: &[u8]) -> Result<Effect, Cause>
 }
 
 // A post to a book that has the numbers that the schedule asks for.
+#[tactic(auto, unfolding(crate::specs::Post::taking, filing::specs::Filing::filing_by))]
 fn post_checked(schedule: &Schedule, book: &mut [u64], record: &[u8]) -> Result<Effect, Cause>
     requires { check_book schedule.now.bytes.now (length book.old) ≡ good schedule.now.layout }
     ensures { PostIs schedule.now.bytes.now book.old «record».now (outcome_at_front result) book.new }

@@ -13,7 +13,7 @@ use wire::u16_at;
 
 // What a good schedule holds, and where: the month's number, the days that are not in effect, the offset of the first group and how many
 // there are, the offset of the first firm and how many there are.
-#[derive(Clone, Copy, Debug, PartialEq, Eq)]
+#[derive(Clone, Copy, Debug, Default, PartialEq, Eq)]
 pub struct Layout {
     pub month: u16,
     pub closed: u32,

@@ -25,7 +25,7 @@ enum Kind {
 }
 
 // Where the check stands: the next record's offset, and what the records before it hold.
-#[derive(Clone, Copy, Debug, PartialEq, Eq)]
+#[derive(Clone, Copy, Debug, Default, PartialEq, Eq)]
 struct Cursor {
     at: usize,
     held: Layout,
@@ -228,24 +228,11 @@ impl Scan<'_> {
     }
 }
 
-// Nothing was read yet.
-const NOTHING: Layout = Layout {
-    month: 0,
-    closed: 0,
-    first: 0,
-    groups: 0,
-    start: 0,
-    firms: 0,
-};
-
 // Checks a whole schedule: the first cause of refusal and its record's offset, or what the schedule holds.
 pub fn check(schedule: &[u8]) -> Result<Layout, Refusal>
     ensures { outcome result ≡ check_of schedule.now }
 {
-    let mut place = Cursor {
-        at: 0,
-        held: NOTHING,
-    };
+    let mut place = Cursor::default();
     while place.at < schedule.len() {
         let scan = Scan {
             bytes: schedule,

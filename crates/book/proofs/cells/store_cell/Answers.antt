@@ -2,7 +2,6 @@
 use Prim.Native.Nat.{suc, ◌+◌}
 use mathlib.Core.Path.{◌≡◌}
 use native.Mathlib.Omega.{arith}
-use lib.ListN.{length-set}
 use lib.Seq.{sets-eq}
 use Rattle.book.specs.Book.{numbers_of}
 use Rattle.book.proofs.cells.store_cell.Goals as goal
@@ -14,12 +13,3 @@ returns c =
     let q : a.at + 2 ≡ suc (suc a.at) = omega arith in
     let r : a.at + 3 ≡ suc (suc (suc a.at)) = omega arith in
     rw (p, q, r) (sets-eq (numbers_of a.cell) a.book.now a.at c.requires)
-
-pub bounds-book-at-2 : goal.bounds-book-at-2
-bounds-book-at-2 c = simp length-set (omega arith)
-
-pub bounds-book-at-3 : goal.bounds-book-at-3
-bounds-book-at-3 c = simp length-set (omega arith)
-
-pub bounds-book-at-4 : goal.bounds-book-at-4
-bounds-book-at-4 c = simp length-set (omega arith)

@@ -1,7 +1,6 @@
 -- Each way that the schedule takes a record is one of the answers; a record that is counted has its cell inside the book.
 use Rattle.std.proofs.Common.{◌≡◌, ℕ, List, refl, sym, ap, ◌∙◌, arith}
 use Rattle.std.specs.Prelude.{Ok}
-use Rattle.std.proofs.lemmas.Result.{err_from_is_err_and}
 use Rattle.wire.proofs.Choose.{passed}
 use Rattle.filing.specs.Causes.{record_causes}
 use Rattle.filing.specs.Filing.{filed_meaning, filing_of}
@@ -12,7 +11,7 @@ use Rattle.filing.proofs.Told.{Located, told}
 use Rattle.book.specs.Book.{index}
 use Rattle.book.proofs.Checked.{sized}
 use Rattle.book.proofs.Taken.{Admitted, admitted, admitted_inside}
-use Rattle.book.proofs.Answers.{stopped, passed_over, goes_in}
+use Rattle.book.proofs.Answers.{goes_in}
 use Rattle.book.proofs.posting.post_checked.Goals as goal
 
 -- a counted record has a firm and a group, and passed 11 to 17 and 31
@@ -27,12 +26,6 @@ module _ (S : List ℕ) (l : Layout) (R : List ℕ) {t : Filed} {f g : ℕ} (kno
 index_same : (G : ℕ) {f f' g g' d d' : ℕ} → f ≡ f' → g ≡ g' → d ≡ d' → index G f g d ≡ index G f' g' d'
 index_same G p q r = rw (p, q, r) refl
 
-pub cell_index-at-requires : goal.cell_index-at-requires
-cell_index-at-requires c =
-    let known = sym (ap filed_meaning c.in_ok-file.was) ∙ c.file.ensures in
-    let p = passes _ _ _ known c.in-At.is in
-    omega (arith, c.byte_at.ensures, p.placed.first)
-
 pub enter-requires : goal.enter-requires
 enter-requires c =
     let known = sym (ap filed_meaning c.in_ok-file.was) ∙ c.file.ensures in
@@ -40,16 +33,6 @@ enter-requires c =
     let p = passes _ _ _ known c.in-At.is in
     rw (c.cell_index-at.ensures ∙ index_same _ here.firm here.group c.byte_at.ensures)
     (omega (arith, admitted_inside _ _ _ p, (sized _ _ c.requires).room))
-
-pub returns-in_err-file : goal.returns-in_err-file
-returns-in_err-file c =
-    let p = err_from_is_err_and c.from_residual.result c.from_residual.ensures.1 in
-    rw (p.1, p.2) (stopped _ _ _ c.requires (told _ _ _ _ c.in_err-file.ensures))
-
-pub returns-in-Outside : goal.returns-in-Outside
-returns-in-Outside c =
-    let known = sym (ap filed_meaning c.in_ok-file.was) ∙ c.file.ensures in
-    passed_over _ _ _ c.requires (told _ _ _ _ (sym (ap (λ x. filed_meaning (Ok x)) c.in-Outside.is) ∙ known))
 
 pub returns-in-At : goal.returns-in-At
 returns-in-At c =

@@ -1,19 +1,21 @@
 -- The scan from the place p, with fuel for the bytes that are left, has the answer of the whole; each accepted record moves p on,
 -- in bounds.
 use Prim.Native.Nat.{◌+◌, ◌-◌}
-use mathlib.Core.Path.{refl, sym, ◌∙◌}
+use mathlib.Core.Path.{◌≡◌, refl, sym, ◌∙◌}
 use native.Mathlib.Omega.{arith}
 use lib.ListN.{length}
 use borrow.Author.Tests.{eq-eqb, ne_eqb}
 use borrow.Author.Rules.{rules}
 use Rattle.refusals.proofs.Causes.{not_0}
-use Rattle.schedule.specs.Check.{check_of, ending}
+use Rattle.schedule.specs.Check.{begin, check_of, ending}
 use Rattle.schedule.proofs.Turns.{scan_end, scan-refused, scan-next, accepted}
 use Rattle.schedule.proofs.scan.check.Goals as goal
 
 pub loop-place-init : goal.loop-place-init
 unfolding check_of
-loop-place-init c = (length c.args.schedule.now + 1, omega arith, refl, record { inside = search rules; groups = search rules; firms = search rules; near = search rules })
+loop-place-init c =
+    let start : c.default-place.result ≡ begin = search rules in
+    rw start (length c.args.schedule.now + 1, omega arith, refl, record { inside = omega arith; groups = omega arith; firms = omega arith; near = omega arith })
 
 pub returns-in-Err : goal.returns-in-Err
 returns-in-Err c =
