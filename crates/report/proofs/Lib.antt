@@ -1,3 +1,5 @@
+pub mod Fronts
+pub mod Violations
 pub mod FirmLines
 pub mod Posting
 pub mod Answers

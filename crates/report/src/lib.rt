@@ -7,13 +7,13 @@ mod posts;
 ghost use Rattle.std.specs.Prelude.{◌≡◌};
 ghost use Rattle.wire.specs.Cut.{cut};
 ghost use Rattle.text.specs.Text.{Wrote};
-ghost use Rattle.report.specs.Report.{book_size, zeros, month_lines, report};
+ghost use Rattle.report.specs.Report.{month_lines, report};
 ghost use Rattle.report.specs.Answer.{ReportIs};
 
 use book::{PER_FIRM_GROUP, check_book, open};
 use firms::put_firms;
 use input::{INPUT, schedule_end};
-use lookup::Layout;
+use lookup::Schedule;
 use posts::put_posts;
 use text::{Line, Output};
 
@@ -31,22 +31,16 @@ pub struct Cut {
     pub bytes: usize,
 }
 
-fn blank_book() -> [u64; BOOK]
-    ensures { result ≡ zeros book_size }
-{
-    [0; BOOK]
-}
-
 // Writes the report of a month whose schedule and book are good: heading, refused records, each firm's violations and totals.
-fn put_month(out: &mut Output, schedule: &[u8], l: Layout, run: &[u8])
-    ensures { Wrote out.old (month_lines schedule.now l (cut run.now)) out.new }
+fn put_month(out: &mut Output, schedule: &Schedule, run: &[u8])
+    ensures { Wrote out.old (month_lines schedule.now.bytes.now schedule.now.layout (cut run.now)) out.new }
 {
-    let mut book = blank_book();
+    let mut book = [0; BOOK];
     // Its answer says nothing new: `check_book` took this schedule and a book of this size.
-    let _ = open(schedule, &mut book);
-    out.put_line(Line::Heading(l.month));
-    put_posts(out, schedule, &mut book, run);
-    put_firms(out, schedule, l, &book);
+    let _ = open(schedule.bytes, &mut book);
+    out.put_line(Line::Heading(schedule.layout.month));
+    put_posts(out, schedule.bytes, &mut book, run);
+    put_firms(out, schedule, &book);
 }
 
 // Writes what an input comes to.
@@ -56,10 +50,10 @@ fn put_report(out: &mut Output, input: &[u8])
     if INPUT < input.len() {
         return out.put_line(Line::TooLong);
     }
-    let (schedule, run) = input.split_at(schedule_end(input));
-    match check_book(schedule, BOOK) {
+    let (bytes, run) = input.split_at(schedule_end(input));
+    match check_book(bytes, BOOK) {
         Err(refusal) => out.put_line(Line::RefusedAt(refusal)),
-        Ok(l) => put_month(out, schedule, l, run),
+        Ok(layout) => put_month(out, &Schedule { bytes, layout }, run),
     }
 }
 

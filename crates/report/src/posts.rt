@@ -8,7 +8,7 @@ ghost use Rattle.report.specs.Report.{post_line, post_lines};
 
 use book::post;
 use text::{Line, Output};
-use wire::first_len;
+use wire::Records;
 
 // Posts one record, and writes its line where it is refused.
 fn put_post(out: &mut Output, schedule: &[u8], book: &mut [u64], record: &[u8])
@@ -25,10 +25,7 @@ pub(crate) fn put_posts(out: &mut Output, schedule: &[u8], book: &mut [u64], run
     ensures wrote { Wrote out.old (post_lines schedule.now book.old (cut run.now)) out.new }
     ensures book_after { book.new ≡ posted schedule.now book.old (cut run.now) }
 {
-    let mut rest = run;
-    while !rest.is_empty() {
-        let (first, others) = rest.split_at(first_len(rest));
-        put_post(out, schedule, book, first);
-        rest = others;
+    for record in Records::new(run) {
+        put_post(out, schedule, book, record);
     }
 }

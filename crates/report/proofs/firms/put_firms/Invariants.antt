@@ -4,5 +4,5 @@ use Rattle.text.specs.Text.{Wrote}
 use Rattle.report.specs.Report.{statement_of}
 use Rattle.report.proofs.firms.put_firms.Given as goal
 
-abbrev pub invariant-loop-f : goal.invariant-loop-f
-invariant-loop-f l = Wrote l.initial.out (joined l.f (statement_of l.schedule l.l l.book)) l.out
+abbrev pub invariant-loop-firm : goal.invariant-loop-firm
+invariant-loop-firm l = Wrote l.initial.out (joined l.firm (statement_of l.schedule.bytes.now l.schedule.layout l.book)) l.out

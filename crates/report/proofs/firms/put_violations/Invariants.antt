@@ -1,11 +1,11 @@
--- Before each turn the lines of the violations so far are written, and the turn writes the next one, from the part of the statement that starts at it.
-use Prim.Native.Nat.{◌*◌}
-use lib.ListN.{drop}
-use Rattle.wire.specs.Lists.{joined}
+-- Before each turn the lines of the first violations are written, and the next one starts behind them.
+use Rattle.std.specs.Slice.Iter.{chunks_exact_rest, chunks_exact_size}
+use Rattle.std.proofs.Common.{◌≡◌}
 use Rattle.statement.specs.Layout.{line_size}
-use Rattle.text.specs.Text.{Wrote}
-use Rattle.text.specs.Lines.{violation_line}
+use Rattle.report.proofs.Violations.{Showing}
 use Rattle.report.proofs.firms.put_violations.Given as goal
 
-abbrev pub invariant-loop-i : goal.invariant-loop-i
-invariant-loop-i l = Wrote l.initial.out (joined l.i (λ k. violation_line l.code (drop (line_size * k) l.records))) l.out
+abbrev pub invariant-loop-line : goal.invariant-loop-line
+invariant-loop-line l =
+    Showing l.code l.violations l.initial.out l.out (chunks_exact_rest l.line-iterator)
+    × (chunks_exact_size l.line-iterator ≡ line_size)
