@@ -1,4 +1,4 @@
--- What report answers once its text is written: the output says whether all of it had room. What was written stands within the bytes that were lent.
+-- What report answers once its text is written: the output says whether all of it had room.
 use Prim.Native.Nat.{ℕ, ◌≤◌}
 use mathlib.Core.Bool.{Bool, true, false, cond}
 use mathlib.Core.List.{List}
@@ -7,13 +7,11 @@ use native.Mathlib.Nat.{zero-add}
 use native.Mathlib.Omega.{arith}
 use lib.Dec.{eqb}
 use lib.ListN.{length}
-use Rattle.std.specs.Prelude.{Result, Ok, Err}
+use Rattle.std.specs.Prelude.{Ok, Err}
 use Rattle.text.specs.declared.Output.{Output}
 use Rattle.text.specs.Text.{room, Wrote}
-use Rattle.text.proofs.Writing.{written_length}
 use Rattle.report.specs.Report.{report}
-use Rattle.report.specs.Answer.{whole, cut, bytes_of, report_meaning, report_answer, report_output, ReportIs}
-use Rattle.report.specs.declared.Cut.{Cut}
+use Rattle.report.specs.Answer.{whole, cut, bytes_of, report_answer, report_output, ReportIs}
 
 -- the text was written from the front of the output p on, which was lent O and leaves O' there
 module _ (I O : List ℕ) {O' : List ℕ} {p r : Output} (bytes : p.bytes.now ≡ O) (at : p.at ≡ 0) (whole_before : p.whole ≡ true)
@@ -44,7 +42,3 @@ answer-within I O = go (eqb n (length (report I)))
     go : (b : Bool) → bytes_of (cond b (whole n) (cut n)) ≤ length O
     go true = omega arith
     go false = omega arith
-
--- so that many bytes of the output can be lent
-pub within : {I O : List ℕ} {r a : Result ℕ Cut} {O' : List ℕ} → ReportIs I O r O' → r ≡ a → bytes_of (report_meaning a) ≤ length O'
-within {I} {O} p e = rw (← e, p.answer, p.output, written_length O 0 (report I)) (answer-within I O)

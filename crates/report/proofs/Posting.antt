@@ -1,7 +1,7 @@
 -- A run of posts, one record at a time: what is written so far and what is left to write make up the run's lines.
 use Prim.Native.Nat.{ℕ}
 use mathlib.Core.List.{List, [], ◌∷◌, ◌++◌, append_assoc, append-nil}
-use mathlib.Core.Path.{◌≡◌, refl, sym, ap, ◌∙◌}
+use mathlib.Core.Path.{◌≡◌, ap}
 use Rattle.accepted.specs.Accepted.{posted}
 use Rattle.book.specs.Post.{post_answer, post_book}
 use Rattle.text.specs.declared.Output.{Output}

@@ -11,6 +11,7 @@ use statement::{BOTH_TOTALS, LARGEST, LINE, TOTALS, statement};
 use text::{Line, Output};
 
 // Writes the lines of a statement's violations.
+#[tactic(auto, using(crate::proofs::Violations::showing_none, crate::proofs::Violations::showing_next))]
 fn put_violations(out: &mut Output, code: &[u8], violations: &[u8])
     ensures { Wrote out.old (joined (length violations.now / line_size) (λ i. violation_line code.now (drop (line_size * i) violations.now))) out.new }
 {
@@ -44,6 +45,7 @@ fn put_firm(out: &mut Output, schedule: &Schedule, book: &[u64], firm: u8)
 }
 
 // Writes the lines of every firm.
+#[tactic(auto, using(text::proofs::Writing::wrote_first))]
 pub(crate) fn put_firms(out: &mut Output, schedule: &Schedule, book: &[u64])
     ensures { Wrote out.old (joined schedule.now.layout.firms (statement_of schedule.now.bytes.now schedule.now.layout book.now)) out.new }
 {

@@ -44,6 +44,7 @@ fn put_month(out: &mut Output, schedule: &Schedule, run: &[u8])
 }
 
 // Writes what an input comes to.
+#[tactic(auto, using(input::proofs::Cuts::schedule_first, input::proofs::Cuts::schedule_most, input::proofs::Cuts::activity_rest), unfolding(crate::specs::Report::report))]
 fn put_report(out: &mut Output, input: &[u8])
     ensures { Wrote out.old (report input.now) out.new }
 {
@@ -58,6 +59,7 @@ fn put_report(out: &mut Output, input: &[u8])
 }
 
 // Writes what an input comes to over the front of the output, as much of it as there is room for, and answers how many bytes that are.
+#[tactic(auto, using(crate::proofs::Answers::is_whole, crate::proofs::Answers::is_cut))]
 pub fn report(input: &[u8], out: &mut [u8]) -> Result<usize, Cut>
     ensures { ReportIs input.now out.old result out.new }
 {

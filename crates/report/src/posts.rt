@@ -21,6 +21,7 @@ fn put_post(out: &mut Output, schedule: &[u8], book: &mut [u64], record: &[u8])
 }
 
 // Posts a run of records, one after the other, and writes the lines of those that are refused.
+#[tactic(auto, using(crate::proofs::Posting::posting_none, crate::proofs::Posting::posting_next))]
 pub(crate) fn put_posts(out: &mut Output, schedule: &[u8], book: &mut [u64], run: &[u8])
     ensures wrote { Wrote out.old (post_lines schedule.now book.old (cut run.now)) out.new }
     ensures book_after { book.new ≡ posted schedule.now book.old (cut run.now) }
