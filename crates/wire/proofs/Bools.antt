@@ -4,7 +4,7 @@ use mathlib.Core.Bool.{Bool, true, false, cond, not, ◌&&◌, false≢true}
 use mathlib.Core.Path.{◌≡◌, refl, sym, ◌∙◌}
 use native.Mathlib.Nat.{le_refl}
 use lib.Dec.{leb, ltb}
-use borrow.Author.Tests.{not-true, not-false, leb-true, leb-false, le-leb, le-ltb, lt-ltb}
+use borrow.Author.Tests.{not-true, leb-true, leb-false, le-leb, le-ltb, lt-ltb}
 use Rattle.wire.specs.Choose.{within}
 
 pub and_left : (a b : Bool) → (a && b) ≡ true → a ≡ true

@@ -2,12 +2,11 @@
 use Prim.Native.Nat.{ℕ, zero, suc, ◌+◌, ◌*◌, ◌/◌, ◌%◌, ◌≤◌, ◌<◌}
 use mathlib.Core.Bool.{true}
 use mathlib.Core.List.{List, [], ◌∷◌, ◌++◌}
-use mathlib.Core.Path.{◌≡◌, refl, ◌∙◌}
-use native.Mathlib.Nat.{add_assoc, div-div-eq-div-mul}
+use mathlib.Core.Path.{◌≡◌, refl}
+use native.Mathlib.Nat.{div-div-eq-div-mul}
 use native.Mathlib.Omega.{arith}
 use lib.Dec.{ltb, lit≤}
-use lib.ListN.{length, get_or, take, drop, get_or-eq_default}
-use lib.Seq.{get_or-append-add, get_or-drop}
+use lib.ListN.{get_or, take, drop}
 use borrow.Author.Tests.{ltb-true}
 use Rattle.wire.specs.Bytes.{are_bytes, u16_at, u32_at, u16_bytes, u32_bytes}
 use Rattle.wire.specs.Choose.{all}

@@ -1,5 +1,5 @@
 -- Laws of a run of records: what its first record takes, and the cut one record at a time.
-use Prim.Native.Nat.{ℕ, zero, suc, ◌+◌, ◌-◌, ◌≤◌, ◌<◌, min}
+use Prim.Native.Nat.{ℕ, zero, suc, ◌≤◌, ◌<◌, min}
 use mathlib.Core.Bool.{Bool, true, false, cond, and-false}
 use mathlib.Core.List.{List, [], ◌∷◌, map}
 use mathlib.Core.Path.{◌≡◌, refl, sym, ap}
@@ -13,7 +13,6 @@ use Rattle.wire.specs.Choose.{all, within}
 use Rattle.wire.specs.Cut.{first_length, cut_in, cut}
 use Rattle.wire.proofs.Bools.{and_left, and_right}
 use Rattle.wire.proofs.Bytes.{bytes_take, bytes_drop}
-use Rattle.wire.proofs.Lists.{part_lent}
 
 module _ (S : List ℕ) where
   pub first_under : u16_at S 0 < 4 → first_length S ≡ length S

@@ -6,3 +6,4 @@ pub mod Lists
 pub mod Bytes
 pub mod Folds
 pub mod Cut
+pub mod Calls

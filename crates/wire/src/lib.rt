@@ -10,6 +10,8 @@ ghost use Rattle.wire.specs.Cut.{first_length, cut, records_in};
 ghost use Rattle.wire.specs.Lists.{table, over};
 ghost use Rattle.wire.specs.Sums.{bit};
 
+use std::array;
+
 // 1 where a test holds, else 0.
 pub fn bit(test: bool) -> u8
     ensures { (result ≡ bit test) × (result ≤ 1) }
@@ -42,12 +44,8 @@ pub fn tail(s: &[u8], at: usize) -> &[u8]
 pub fn bytes_at<const N: usize>(s: &[u8], at: usize) -> [u8; N]
     ensures { result ≡ table N (λ i. get_or s.now (at + i) 0) }
 {
-    let mut bytes = [0; N];
     let rest = tail(s, at);
-    for (i, byte) in bytes.iter_mut().enumerate() {
-        *byte = byte_at(rest, i);
-    }
-    bytes
+    array::from_fn(|i| byte_at(rest, i))
 }
 
 // The number of two bytes at a place.
