@@ -2,7 +2,7 @@
 use Rattle.std.proofs.Common.{sym, arith}
 use Rattle.wire.proofs.Sums.{sum-none, sum_more, count_most}
 use Rattle.contracts.specs.Counted.{in_front, is_after, is_late}
-use Rattle.contracts.proofs.counted.passed_before.Goals as goal
+use Rattle.contracts.proofs.counted.GroupBody.passed_before.Goals as goal
 
 pub loop-i-init : goal.loop-i-init
 loop-i-init c = record { front = sym (sum-none _); extra = sym (sum-none _) }

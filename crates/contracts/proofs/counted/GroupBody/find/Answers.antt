@@ -5,7 +5,7 @@ use borrow.Author.Tests.{lt-ltb}
 use Rattle.wire.specs.Choose.{seek, some}
 use Rattle.wire.proofs.Choose.{sought, none_some}
 use Rattle.contracts.specs.Counted.{contract_is, contract_listed, contract_found}
-use Rattle.contracts.proofs.counted.find_contract.Goals as goal
+use Rattle.contracts.proofs.counted.GroupBody.find.Goals as goal
 
 first-found : (n : ℕ) (p : ℕ → Bool) (r : Option ℕ)
     → MatchOption r ((k : ℕ) → 0 ≤ k → k < n → p k ≡ false)
@@ -20,6 +20,6 @@ first-found n p (Some i) h =
 pub returns : goal.returns
 unfolding contract_found contract_listed contract_is
 returns c =
-    let is = contract_is c.args.body.now c.args.m in
+    let is = contract_is c.args.self.now.body.now c.args.m in
     let found = first_from_Range _ _ _ c.find.result (λ i. is i ≡ true) (λ i. is i ≡ false) c.find.ensures.ran in
     rw (← c.listed_in.ensures) (first-found _ is _ (found (λ i q k. search (rules, tests)) (λ i q k. search (rules, tests))))
