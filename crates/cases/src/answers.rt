@@ -1,10 +1,7 @@
 // The lines of the answers.
-ghost use Rattle.std.specs.Prelude.{◌≤◌, length};
-ghost use Rattle.statement.specs.Layout.{largest};
-
 use book::Effect;
 use refusals::Refusal;
-use script::put_hex;
+use script::{digest_of, put_hex};
 use statement::LARGEST;
 use std::io;
 
@@ -29,9 +26,7 @@ pub(crate) fn print_posted(rt: &impl Print, answer: Result<Effect, Refusal>) {
 }
 
 // What a statement answered, and the whole output in hexadecimal digits: after a refusal too, so that a change of it can be seen.
-pub(crate) fn print_stated(rt: &impl Print, answer: Result<usize, Refusal>, out: &[u8])
-    requires { length out.now ≤ largest }
-{
+pub(crate) fn print_stated(rt: &impl Print, answer: Result<usize, Refusal>, out: &[u8]) {
     let mut text = [0; 2 * LARGEST];
     let digits = put_hex(out, &mut text);
     match answer {
@@ -47,6 +42,8 @@ pub(crate) fn print_verdict(rt: &impl Print, number: u64) {
     say(println!(rt; "code {number}"));
 }
 
-pub(crate) fn print_digest(rt: &impl Print, numbers: usize, digest: u64) {
+pub(crate) fn print_digest(rt: &impl Print, book: &[u64]) {
+    let numbers = book.len();
+    let digest = digest_of(book);
     say(println!(rt; "book {numbers} {digest}"));
 }

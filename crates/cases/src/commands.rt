@@ -1,150 +1,97 @@
-// The commands of a script. Each reads its operands behind its own byte.
-ghost use Rattle.std.specs.Prelude.{◌≡◌, ◌≤◌, ◌<◌, length};
-ghost use Rattle.statement.specs.Layout.{largest};
+// The commands of a script. Each has its operands behind its own byte.
+ghost use Rattle.std.specs.Prelude.{◌≡◌, ◌-◌, ◌≤◌, length};
+ghost use Rattle.std.specs.Iterator.{at_most};
+ghost use Rattle.script.specs.Script.{past_in};
 
-use crate::answers::{print_digest, print_opened, print_posted, print_stated, print_verdict};
-use crate::runner::{Runner, Stop};
-use book::{open, post};
-use rules::mep_verdict;
-use script::{bytes_of, digest_of};
-use statement::{LARGEST, statement};
-use wire::{byte_at, fill};
+use crate::stop::Stop;
+use script::Script;
 
-// What a number of the book holds before any call, so that what a call leaves alone can be seen.
-const UNTOUCHED: u64 = 7;
-
-// An output before its call, each byte 165, so that what a call leaves alone can be seen.
-fn fresh_output() -> [u8; LARGEST]
-    ensures { largest ≡ length result }
-{
-    [165; LARGEST]
-}
-
-// Writes the statement of a firm into an output, and prints its answer and the output.
-fn print_statement(rt: &impl Print, schedule: &[u8], book: &[u64], firm: &[u8], out: &mut [u8])
-    requires { length out.old ≤ largest }
-{
-    let answer = statement(schedule, book, firm, out);
-    print_stated(rt, answer, out);
-}
-
-impl Runner<'_, '_> {
+#[derive(Clone, Copy, Debug, PartialEq, Eq)]
+pub(crate) enum Command<'a> {
     // S: the schedule of the calls that follow.
-    fn run_schedule(&mut self)
-        ensures on { self.old.at ≤ self.new.at }
-        ensures script { self.new.script.now ≡ self.old.script.now }
-    {
-        self.schedule = self.read_piece();
-    }
-
+    Schedule {
+        bytes: &'a [u8],
+    },
     // B: a new book of so many numbers.
-    fn run_book(&mut self) -> Result<(), Stop>
-        ensures on { self.old.at ≤ self.new.at }
-        ensures script { self.new.script.now ≡ self.old.script.now }
-    {
-        let numbers = self.read_u32() as usize;
-        if self.book.len() < numbers {
-            return Err(Stop::BookTooLarge);
-        }
-        fill(self.book, numbers, UNTOUCHED);
-        self.numbers = numbers;
-        Ok(())
-    }
-
+    Book {
+        numbers: usize,
+    },
     // W: one number of the book.
-    fn run_write(&mut self) -> Result<(), Stop>
-        ensures on { self.old.at ≤ self.new.at }
-        ensures script { self.new.script.now ≡ self.old.script.now }
-    {
-        let i = self.read_u32() as usize;
-        let n = self.read_u64();
-        if self.book.len().min(self.numbers) <= i {
-            return Err(Stop::NoSuchNumber);
-        }
-        self.book[i] = n;
-        Ok(())
-    }
-
+    Write {
+        place: usize,
+        number: u64,
+    },
     // O: opens the book.
-    fn run_open(&mut self, rt: &impl Print)
-        ensures on { self.old.at ≤ self.new.at }
-        ensures script { self.new.script.now ≡ self.old.script.now }
-    {
-        let schedule = bytes_of(self.script, self.schedule);
-        let held = self.book.len().min(self.numbers);
-        print_opened(rt, open(schedule, &mut self.book[..held]));
-    }
-
+    Open,
     // P: posts a record.
-    fn run_post(&mut self, rt: &impl Print)
-        ensures on { self.old.at ≤ self.new.at }
-        ensures script { self.new.script.now ≡ self.old.script.now }
-    {
-        let piece = self.read_piece();
-        let record = bytes_of(self.script, piece);
-        let schedule = bytes_of(self.script, self.schedule);
-        let held = self.book.len().min(self.numbers);
-        print_posted(rt, post(schedule, &mut self.book[..held], record));
-    }
-
-    // T: the statement of a firm, into an output of so many bytes: no more than the largest statement has.
-    fn run_statement(&mut self, rt: &impl Print) -> Result<(), Stop>
-        ensures on { self.old.at ≤ self.new.at }
-        ensures script { self.new.script.now ≡ self.old.script.now }
-    {
-        let piece = self.read_piece();
-        let size = self.read_u32() as usize;
-        if LARGEST < size {
-            return Err(Stop::OutputTooLarge);
-        }
-        let firm = bytes_of(self.script, piece);
-        let schedule = bytes_of(self.script, self.schedule);
-        let held = self.book.len().min(self.numbers);
-        let mut out = fresh_output();
-        print_statement(rt, schedule, &self.book[..held], firm, &mut out[..size]);
-        Ok(())
-    }
-
-    // V: the verdict on a day's raw count, score, lots and benchmark.
-    fn run_verdict(&mut self, rt: &impl Print)
-        ensures on { self.old.at ≤ self.new.at }
-        ensures script { self.new.script.now ≡ self.old.script.now }
-    {
-        let raw = self.read_u64();
-        let score = self.read_u64();
-        let lots = self.read_u64();
-        let benchmark = self.read_u64();
-        print_verdict(rt, mep_verdict(raw, score, lots, benchmark));
-    }
-
+    Post {
+        record: &'a [u8],
+    },
+    // T: the statement of a firm, into an output of so many bytes.
+    Statement {
+        firm: &'a [u8],
+        size: usize,
+    },
+    // V: the verdict on a day.
+    Verdict {
+        raw: u64,
+        score: u64,
+        lots: u64,
+        benchmark: u64,
+    },
     // D: the digest of the book.
-    fn run_digest(&mut self, rt: &impl Print)
-        ensures on { self.old.at ≤ self.new.at }
-        ensures script { self.new.script.now ≡ self.old.script.now }
-    {
-        let held = self.book.len().min(self.numbers);
-        print_digest(rt, held, digest_of(&self.book[..held]));
-    }
+    Digest,
+}
 
-    // Runs the command that stands next.
-    pub(crate) fn run_command(&mut self, rt: &impl Print) -> Result<(), Stop>
-        requires { self.old.at < length self.old.script.now }
-        ensures on { self.old.at < self.new.at }
-        ensures script { self.new.script.now ≡ self.old.script.now }
-    {
-        let command = byte_at(self.script, self.at);
-        self.at += 1;
-        match command {
-            b'S' => self.run_schedule(),
-            b'B' => self.run_book()?,
-            b'W' => self.run_write()?,
-            b'O' => self.run_open(rt),
-            b'P' => self.run_post(rt),
-            b'T' => self.run_statement(rt)?,
-            b'V' => self.run_verdict(rt),
-            b'D' => self.run_digest(rt),
-            _ => return Err(Stop::BadCommand),
+// Reads the command at a script's place, of which its byte takes one place at least.
+fn read_command<'a>(script: &mut Script<'a>) -> Result<Command<'a>, Stop>
+    ensures bytes { script.new.bytes.now ≡ script.old.bytes.now }
+    ensures on { past_in script.old.bytes.now script.old.at 1 ≤ script.new.at }
+{
+    let command = match script.byte() {
+        b'S' => Command::Schedule {
+            bytes: script.piece(),
+        },
+        b'B' => Command::Book {
+            numbers: script.u32() as usize,
+        },
+        b'W' => Command::Write {
+            place: script.u32() as usize,
+            number: script.u64(),
+        },
+        b'O' => Command::Open,
+        b'P' => Command::Post {
+            record: script.piece(),
+        },
+        b'T' => Command::Statement {
+            firm: script.piece(),
+            size: script.u32() as usize,
+        },
+        b'V' => Command::Verdict {
+            raw: script.u64(),
+            score: script.u64(),
+            lots: script.u64(),
+            benchmark: script.u64(),
+        },
+        b'D' => Command::Digest,
+        _ => return Err(Stop::BadCommand),
+    };
+    Ok(command)
+}
+
+// The commands of a script, from the next one on.
+#[derive(Clone, Copy, Debug)]
+pub(crate) struct Commands<'a>(pub Script<'a>);
+
+impl<'a> Iterator for Commands<'a> {
+    type Item = Result<Command<'a>, Stop>;
+
+    ghost remaining = { λ c. at_most (length c.0.bytes.now - c.0.at) };
+
+    fn next(&mut self) -> Option<Result<Command<'a>, Stop>> {
+        if self.0.is_done() {
+            return None;
         }
-        Ok(())
+        Some(read_command(&mut self.0))
     }
 }

@@ -4,12 +4,15 @@
 mod answers;
 mod commands;
 mod runner;
+mod stop;
 
 use answers::say;
+use commands::Commands;
 use reading::read_full;
-use runner::{Runner, Stop};
-use script::Piece;
+use runner::Runner;
+use script::Script;
 use std::io;
+use stop::Stop;
 
 // The longest script, in bytes, and the largest book, in numbers.
 const SCRIPT: usize = 262_144;
@@ -18,15 +21,9 @@ const BOOK: usize = 16_384;
 
 // Runs the commands one after the other, to the script's end or to one that cannot be run.
 fn run_script(rt: &impl Print, script: &[u8], book: &mut [u64]) -> Result<(), Stop> {
-    let mut runner = Runner {
-        script,
-        at: 0,
-        schedule: Piece { start: 0, end: 0 },
-        book,
-        numbers: 0,
-    };
-    while runner.at < runner.script.len() {
-        runner.run_command(rt)?;
+    let mut runner = Runner::new(book);
+    for command in Commands(Script::new(script)) {
+        runner.run(rt, command?)?;
     }
     Ok(())
 }

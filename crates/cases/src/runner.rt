@@ -1,68 +1,94 @@
-// A script that is being run.
-ghost use Rattle.std.specs.Prelude.{◌≡◌, ◌≤◌};
+// What the commands of a script do.
+ghost use Rattle.std.specs.Prelude.{◌≡◌, length};
+ghost use Rattle.statement.specs.Layout.{largest};
 
-use script::{Piece, past, piece_at, u64_at};
-use std::fmt;
-use wire::u32_at;
+use crate::answers::{print_digest, print_opened, print_posted, print_stated, print_verdict};
+use crate::commands::Command;
+use crate::stop::Stop;
+use book::{open, post};
+use rules::mep_verdict;
+use statement::{LARGEST, statement};
+use wire::fill;
 
-// The script and the next byte of it to read; the schedule of the calls; the numbers for a book, and how many of them the book has.
+// What a number of the book holds before any call, so that what a call leaves alone can be seen.
+const UNTOUCHED: u64 = 7;
+
+// An output before its call, each byte 165, so that what a call leaves alone can be seen.
+fn fresh_output() -> [u8; LARGEST]
+    ensures { largest ≡ length result }
+{
+    [165; LARGEST]
+}
+
+// The schedule of the calls; the numbers for a book, and how many of them the book has.
 #[derive(Drop)]
 pub(crate) struct Runner<'s, 'b> {
-    pub script: &'s [u8],
-    pub at: usize,
-    pub schedule: Piece,
-    pub book: &'b mut [u64],
-    pub numbers: usize,
+    schedule: &'s [u8],
+    book: &'b mut [u64],
+    numbers: usize,
 }
 
-// Why a command cannot be run. No other one follows it.
-#[derive(Clone, Copy, Debug, PartialEq, Eq)]
-pub(crate) enum Stop {
-    BadCommand,
-    BookTooLarge,
-    NoSuchNumber,
-    OutputTooLarge,
-}
-
-impl fmt::Display for Stop {
-    fn fmt<W: fmt::Write>(&self, f: &mut fmt::Formatter<W>) -> fmt::Result {
-        match self {
-            Stop::BadCommand => write!(f, "bad command"),
-            Stop::BookTooLarge => write!(f, "book too large"),
-            Stop::NoSuchNumber => write!(f, "no such number"),
-            Stop::OutputTooLarge => write!(f, "output too large"),
+impl<'s, 'b> Runner<'s, 'b> {
+    // A runner with no schedule yet, and with no number in its book.
+    pub(crate) fn new(book: &'b mut [u64]) -> Self {
+        Runner {
+            schedule: &[],
+            book,
+            numbers: 0,
         }
     }
-}
 
-impl Runner<'_, '_> {
-    // Reads a number of four bytes.
-    pub(crate) fn read_u32(&mut self) -> u32
-        ensures on { self.old.at ≤ self.new.at }
-        ensures script { self.new.script.now ≡ self.old.script.now }
-    {
-        let n = u32_at(self.script, self.at);
-        self.at = past(self.script, self.at, 4);
-        n
+    // The book.
+    fn held(&mut self) -> &mut [u64] {
+        let held = self.numbers.min(self.book.len());
+        &mut self.book[..held]
     }
 
-    // Reads a number of eight bytes.
-    pub(crate) fn read_u64(&mut self) -> u64
-        ensures on { self.old.at ≤ self.new.at }
-        ensures script { self.new.script.now ≡ self.old.script.now }
-    {
-        let n = u64_at(self.script, self.at);
-        self.at = past(self.script, self.at, 8);
-        n
+    fn make_book(&mut self, numbers: usize) -> Result<(), Stop> {
+        if self.book.len() < numbers {
+            return Err(Stop::BookTooLarge);
+        }
+        fill(self.book, numbers, UNTOUCHED);
+        self.numbers = numbers;
+        Ok(())
     }
 
-    // Reads a piece.
-    pub(crate) fn read_piece(&mut self) -> Piece
-        ensures on { self.old.at ≤ self.new.at }
-        ensures script { self.new.script.now ≡ self.old.script.now }
-    {
-        let piece = piece_at(self.script, self.at);
-        self.at = piece.end;
-        piece
+    fn write(&mut self, place: usize, number: u64) -> Result<(), Stop> {
+        *self.held().get_mut(place).ok_or(Stop::NoSuchNumber)? = number;
+        Ok(())
+    }
+
+    // An output has no more bytes than the largest statement.
+    fn print_statement(&mut self, rt: &impl Print, firm: &[u8], size: usize) -> Result<(), Stop> {
+        if LARGEST < size {
+            return Err(Stop::OutputTooLarge);
+        }
+        let mut output = fresh_output();
+        let out = &mut output[..size];
+        let answer = statement(self.schedule, self.held(), firm, out);
+        print_stated(rt, answer, out);
+        Ok(())
+    }
+
+    // Runs a command, and prints what the call that it makes answers.
+    pub(crate) fn run(&mut self, rt: &impl Print, command: Command<'s>) -> Result<(), Stop> {
+        match command {
+            Command::Schedule { bytes } => self.schedule = bytes,
+            Command::Book { numbers } => self.make_book(numbers)?,
+            Command::Write { place, number } => self.write(place, number)?,
+            Command::Open => print_opened(rt, open(self.schedule, self.held())),
+            Command::Post { record } => {
+                print_posted(rt, post(self.schedule, self.held(), record))
+            }
+            Command::Statement { firm, size } => self.print_statement(rt, firm, size)?,
+            Command::Verdict {
+                raw,
+                score,
+                lots,
+                benchmark,
+            } => print_verdict(rt, mep_verdict(raw, score, lots, benchmark)),
+            Command::Digest => print_digest(rt, self.held()),
+        }
+        Ok(())
     }
 }
