@@ -10,18 +10,18 @@ pub(crate) fn say(written: io::Result<()>) {
     let _ = written;
 }
 
-pub(crate) fn print_opened(rt: &impl Print, answer: Result<(), Refusal>) {
+// What a call answered that has a word for its answer.
+pub(crate) fn print_answer(rt: &impl Print, answer: Result<&str, Refusal>) {
     match answer {
         Err(refusal) => say(println!(rt; "{refusal}")),
-        Ok(()) => say(println!(rt; "opened")),
+        Ok(word) => say(println!(rt; "{word}")),
     }
 }
 
-pub(crate) fn print_posted(rt: &impl Print, answer: Result<Effect, Refusal>) {
-    match answer {
-        Err(refusal) => say(println!(rt; "{refusal}")),
-        Ok(Effect::Outside) => say(println!(rt; "outside")),
-        Ok(Effect::Counted) => say(println!(rt; "counted")),
+pub(crate) fn effect_word(effect: Effect) -> &'static str {
+    match effect {
+        Effect::Outside => "outside",
+        Effect::Counted => "counted",
     }
 }
 

@@ -1,8 +1,5 @@
 // What the commands of a script do.
-ghost use Rattle.std.specs.Prelude.{◌≡◌, length};
-ghost use Rattle.statement.specs.Layout.{largest};
-
-use crate::answers::{print_digest, print_opened, print_posted, print_stated, print_verdict};
+use crate::answers::{effect_word, print_answer, print_digest, print_stated, print_verdict};
 use crate::commands::Command;
 use crate::stop::Stop;
 use book::{open, post};
@@ -10,15 +7,10 @@ use rules::mep_verdict;
 use statement::{LARGEST, statement};
 use wire::fill;
 
-// What a number of the book holds before any call, so that what a call leaves alone can be seen.
+// What a number of the book and a byte of an output hold before any call, so that what a call leaves alone can be seen.
 const UNTOUCHED: u64 = 7;
 
-// An output before its call, each byte 165, so that what a call leaves alone can be seen.
-fn fresh_output() -> [u8; LARGEST]
-    ensures { largest ≡ length result }
-{
-    [165; LARGEST]
-}
+const UNTOUCHED_BYTE: u8 = 165;
 
 // The schedule of the calls; the numbers for a book, and how many of them the book has.
 #[derive(Drop)]
@@ -38,7 +30,7 @@ impl<'s, 'b> Runner<'s, 'b> {
         }
     }
 
-    // The book.
+    // The numbers that the book has.
     fn held(&mut self) -> &mut [u64] {
         let held = self.numbers.min(self.book.len());
         &mut self.book[..held]
@@ -63,7 +55,7 @@ impl<'s, 'b> Runner<'s, 'b> {
         if LARGEST < size {
             return Err(Stop::OutputTooLarge);
         }
-        let mut output = fresh_output();
+        let mut output = [UNTOUCHED_BYTE; LARGEST];
         let out = &mut output[..size];
         let answer = statement(self.schedule, self.held(), firm, out);
         print_stated(rt, answer, out);
@@ -76,9 +68,14 @@ impl<'s, 'b> Runner<'s, 'b> {
             Command::Schedule { bytes } => self.schedule = bytes,
             Command::Book { numbers } => self.make_book(numbers)?,
             Command::Write { place, number } => self.write(place, number)?,
-            Command::Open => print_opened(rt, open(self.schedule, self.held())),
+            Command::Open => {
+                print_answer(rt, open(self.schedule, self.held()).map(|()| "opened"));
+            }
             Command::Post { record } => {
-                print_posted(rt, post(self.schedule, self.held(), record))
+                print_answer(
+                    rt,
+                    post(self.schedule, self.held(), record).map(effect_word),
+                );
             }
             Command::Statement { firm, size } => self.print_statement(rt, firm, size)?,
             Command::Verdict {
