@@ -4,8 +4,9 @@ ghost use Rattle.rules.specs.Verdict.{fits};
 ghost use Rattle.rules.specs.Month.{exempt};
 ghost use Rattle.rules.specs.Marks.{most_groups, places, verdict_at};
 ghost use Rattle.lookup.specs.InForce.{rules_of};
-ghost use Rattle.book.specs.Book.{cells, totals_in};
-ghost use Rattle.month.specs.Month.{terms, is_excess, any_excess};
+ghost use Rattle.book.specs.Book.{cells};
+ghost use Rattle.month.specs.Firm.{bytes_of, terms_of, totals_of};
+ghost use Rattle.month.specs.Month.{is_excess, any_excess};
 ghost use Rattle.month.specs.Parts.{Within, with_day, sums_to, VerdictsAre};
 
 use crate::firm::FirmBook;
@@ -70,9 +71,9 @@ impl FirmBook<'_> {
     // The sums of a group of the firm over the month.
     fn month_sums(&self, group: u8) -> MonthSums
         requires { group < most_groups }
-        ensures { result ≡ sums_to (terms self.now.schedule.now self.now.layout) (totals_in self.now.layout.groups self.now.book.now self.now.firm) group 31 }
+        ensures { result ≡ sums_to (terms_of self.now) (totals_of self.now) group 31 }
     {
-        let l = self.layout;
+        let l = self.schedule.layout;
         let mut sums = MonthSums::default();
         for d in 0..31 {
             let t = cell_in(self.book, l.groups, self.firm, group, d + 1).totals;
@@ -85,12 +86,12 @@ impl FirmBook<'_> {
     // Whether a group of the firm is exempt this month.
     pub(crate) fn is_exempt(&self, g: usize) -> bool
         requires { g < most_groups }
-        ensures { result ≡ exempt (rules_of self.now.schedule.now) (terms self.now.schedule.now self.now.layout) (totals_in self.now.layout.groups self.now.book.now self.now.firm) g }
+        ensures { result ≡ exempt (rules_of (bytes_of self.now)) (terms_of self.now) (totals_of self.now) g }
     {
-        if self.layout.groups as usize <= g {
+        if usize::from(self.schedule.layout.groups) <= g {
             return true;
         }
-        let benchmark = self.group(g).benchmark as u64;
+        let benchmark = u64::from(self.group(g).benchmark);
         let s = self.month_sums(g as u8);
         let t = Totals {
             raw: s.raw,
@@ -104,22 +105,22 @@ impl FirmBook<'_> {
     // The verdict on place i: past the last group and on a day that is not in effect nothing is judged.
     fn place_verdict(&self, i: usize) -> Verdict
         requires { i < places }
-        ensures { result ≡ verdict_at (rules_of self.now.schedule.now) (terms self.now.schedule.now self.now.layout) (totals_in self.now.layout.groups self.now.book.now self.now.firm) i }
+        ensures { result ≡ verdict_at (rules_of (bytes_of self.now)) (terms_of self.now) (totals_of self.now) i }
     {
-        let l = self.layout;
+        let l = self.schedule.layout;
         let g = i % GROUPS;
         let day = (i / GROUPS + 1) as u8;
-        if !((g < l.groups as usize) & in_effect(l.month, l.closed, day)) {
+        if !((g < usize::from(l.groups)) & in_effect(l.month, l.closed, day)) {
             return NOT_JUDGED;
         }
-        let benchmark = self.group(g).benchmark as u64;
+        let benchmark = u64::from(self.group(g).benchmark);
         let t = cell_in(self.book, l.groups, self.firm, g as u8, day).totals;
         days_verdict(1, t, benchmark).unwrap_or(NOT_JUDGED)
     }
 
     // The verdicts on the firm's places, day by day.
     pub(crate) fn verdicts(&self) -> [Verdict; PLACES]
-        ensures { VerdictsAre result (verdict_at (rules_of self.now.schedule.now) (terms self.now.schedule.now self.now.layout) (totals_in self.now.layout.groups self.now.book.now self.now.firm)) }
+        ensures { VerdictsAre result (verdict_at (rules_of (bytes_of self.now)) (terms_of self.now) (totals_of self.now)) }
     {
         array::from_fn(|i| self.place_verdict(i))
     }

@@ -4,17 +4,16 @@ ghost use Rattle.book.specs.Book.{cells};
 ghost use Rattle.month.specs.Month.{starts_of};
 ghost use Rattle.month.specs.Parts.{Sound};
 
-use lookup::Layout;
+use lookup::Schedule;
 use rules::GROUPS;
 
 // A schedule that was checked, with where its groups stand, and a firm whose numbers in the book are within the limit.
 #[derive(Drop)]
 pub(crate) struct FirmBook<'a> {
-    pub schedule: &'a [u8],
-    pub layout: Layout,
+    pub schedule: Schedule<'a>,
     pub starts: [usize; GROUPS],
     pub book: &'a [u64],
     pub firm: u8,
-    ghost stand: { starts ≡ starts_of schedule.now layout },
-    ghost sound: { Sound schedule.now layout (cells layout.groups book.now firm) },
+    ghost stand: { starts ≡ starts_of schedule.bytes.now schedule.layout },
+    ghost sound: { Sound schedule.bytes.now schedule.layout (cells schedule.layout.groups book.now firm) },
 }

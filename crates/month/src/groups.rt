@@ -2,26 +2,26 @@
 ghost use Rattle.std.specs.Prelude.{◌≡◌, ◌<◌};
 ghost use Rattle.rules.specs.Marks.{most_groups};
 ghost use Rattle.lookup.specs.Lookup.{group_at};
-ghost use Rattle.book.specs.Book.{totals_in};
+ghost use Rattle.month.specs.Firm.{bytes_of, layout_of, totals_of};
 ghost use Rattle.month.specs.Month.{starts_of, group_month, groups_of};
 
 use crate::GroupMonth;
 use crate::firm::FirmBook;
-use lookup::{Layout, group_at};
+use lookup::{Schedule, group_at};
 use records::Group;
 use rules::GROUPS;
 use std::array;
 use wire::u16_at;
 
 // Where the groups stand in the schedule. Past the last group the places mean nothing, and no verdict goes by them.
-pub(crate) fn group_starts(schedule: &[u8], l: Layout) -> [usize; GROUPS]
-    ensures { result ≡ starts_of schedule.now l }
+pub(crate) fn group_starts(schedule: &Schedule) -> [usize; GROUPS]
+    ensures { result ≡ starts_of schedule.now.bytes.now schedule.now.layout }
 {
     let mut starts = [0; GROUPS];
-    let mut at = l.first as usize;
+    let mut at = schedule.layout.first as usize;
     for start in starts.iter_mut() {
         *start = at;
-        at += u16_at(schedule, at) as usize;
+        at += usize::from(u16_at(schedule.bytes, at));
     }
     starts
 }
@@ -30,15 +30,15 @@ impl FirmBook<'_> {
     // The fields of group g.
     pub(crate) fn group(&self, g: usize) -> Group
         requires { g < most_groups }
-        ensures { result ≡ group_at self.now.schedule.now self.now.layout g }
+        ensures { result ≡ group_at (bytes_of self.now) (layout_of self.now) g }
     {
-        group_at(self.schedule, self.starts[g])
+        group_at(self.schedule.bytes, self.starts[g])
     }
 
     // Group g in the firm's month.
     fn group_month(&self, g: usize) -> GroupMonth
         requires { g < most_groups }
-        ensures { result ≡ group_month self.now.schedule.now self.now.layout (totals_in self.now.layout.groups self.now.book.now self.now.firm) g }
+        ensures { result ≡ group_month (bytes_of self.now) (layout_of self.now) (totals_of self.now) g }
     {
         GroupMonth {
             start: self.starts[g],
@@ -49,7 +49,7 @@ impl FirmBook<'_> {
 
     // The groups by their places.
     pub(crate) fn groups(&self) -> [GroupMonth; GROUPS]
-        ensures { result ≡ groups_of self.now.schedule.now self.now.layout (totals_in self.now.layout.groups self.now.book.now self.now.firm) }
+        ensures { result ≡ groups_of (bytes_of self.now) (layout_of self.now) (totals_of self.now) }
     {
         array::from_fn(|g| self.group_month(g))
     }

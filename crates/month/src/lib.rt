@@ -7,14 +7,14 @@ mod groups;
 mod marks;
 
 ghost use Rattle.std.specs.Prelude.{◌≡◌};
-ghost use Rattle.book.specs.Book.{totals_in};
+ghost use Rattle.month.specs.Firm.{bytes_of, layout_of, totals_of};
 ghost use Rattle.month.specs.Month.{MonthIs, HeldMonth};
 
 use book::check_book;
 use days::has_excess;
 use firm::FirmBook;
 use groups::group_starts;
-use lookup::{Layout, find_firm, rules_of};
+use lookup::{Layout, Schedule, rules_of};
 use marks::{codes_of, give_marks};
 use refusals::{Cause, Refusal};
 use rules::{GROUPS, PLACES, Verdict};
@@ -28,7 +28,7 @@ pub struct GroupMonth {
 }
 
 // What the schedule holds; its groups; of each place (day by day, in each day group by group) the verdict and the mark.
-#[derive(Clone, Copy)]
+#[derive(Clone, Copy, Debug, PartialEq, Eq)]
 pub struct Month {
     pub layout: Layout,
     pub groups: [GroupMonth; GROUPS],
@@ -38,13 +38,13 @@ pub struct Month {
 
 // The month of a firm.
 fn judged_month(firm: &FirmBook) -> Month
-    ensures { HeldMonth firm.now.schedule.now firm.now.layout (totals_in firm.now.layout.groups firm.now.book.now firm.now.firm) result }
+    ensures { HeldMonth (bytes_of firm.now) (layout_of firm.now) (totals_of firm.now) result }
 {
     let groups = firm.groups();
     let verdicts = firm.verdicts();
-    let marks = give_marks(rules_of(firm.schedule), codes_of(&verdicts), &groups);
+    let marks = give_marks(rules_of(firm.schedule.bytes), codes_of(&verdicts), &groups);
     Month {
-        layout: firm.layout,
+        layout: firm.schedule.layout,
         groups,
         verdicts,
         marks,
@@ -56,17 +56,19 @@ pub fn firm_month(schedule: &[u8], book: &[u64], code: &[u8]) -> Result<Month, R
     ensures { MonthIs schedule.now book.now code.now result }
 {
     let layout = check_book(schedule, book.len())?;
-    let Some(place) = find_firm(schedule, layout, code) else {
+    let schedule = Schedule {
+        bytes: schedule,
+        layout,
+    };
+    let Some(firm) = schedule.find_firm(code) else {
         return Err(Refusal::from(Cause::NoSuchFirm));
     };
-    let firm = place as u8;
     if has_excess(layout, book, firm) {
         return Err(Refusal::from(Cause::Excess));
     }
-    let starts = group_starts(schedule, layout);
+    let starts = group_starts(&schedule);
     Ok(judged_month(&FirmBook {
         schedule,
-        layout,
         starts,
         book,
         firm,

@@ -1,9 +1,8 @@
 -- Refusals 1 to 8 are those of the check, and an unlisted firm is 21. A listed firm has one place, which fits a byte; then 22 is asked, and the rest is
 -- its month.
-use Rattle.std.proofs.Common.{◌<◌, sym, ◌∙◌, lt_trans, arith}
+use Rattle.std.proofs.Common.{sym, ◌∙◌}
 use Rattle.std.proofs.lemmas.Result.{err_from_is_err_and}
 use Rattle.lookup.specs.Lookup.{firm_listed}
-use Rattle.schedule.proofs.Good.{good-schedule}
 use Rattle.lookup.proofs.Laws.{firm-found, firm_unlisted}
 use Rattle.book.proofs.Checked.{sized}
 use Rattle.month.specs.Parts.{ListedAt}
@@ -19,17 +18,11 @@ pub returns-in_default : goal.returns-in_default
 returns-in_default c =
     record { answer = rw c.from.ensures (sym (is_21 _ _ _ (sym c.in_ok-layout.ensures) (firm_unlisted _ _ _ c.in_default.ensures))); held = tt }
 
-pub overflow_cast-firm : goal.overflow_cast-firm
-overflow_cast-firm c =
-    let f = firm-found _ _ _ c.in-Some.ensures in
-    let most : c.in_ok-layout.layout.firms < 256 = omega (arith, (good-schedule _ (sized _ _ (sym c.in_ok-layout.ensures)).schedule).few_firms) in
-    record { fits = lt_trans f.inside most }
-
 pub returns-then-has_excess : goal.returns-then-has_excess
 unfolding firm_listed
 returns-then-has_excess c =
     let f = firm-found _ _ _ c.in-Some.ensures in
-    let at : ListedAt c.args.schedule.now c.in_ok-layout.layout c.args.book.now c.args.code.now c.in-Some.place
+    let at : ListedAt c.args.schedule.now c.in_ok-layout.layout c.args.book.now c.args.code.now c.in-Some.firm
     = record { checked = sym c.in_ok-layout.ensures; listed = f.listed; place = sym f.first } in
     record { answer = rw c.from-then-has_excess.ensures (sym (is_22 _ _ _ _ _ at (sym c.has_excess.ensures ∙ c.if-has_excess.true))); held = tt }
 
@@ -37,7 +30,7 @@ pub returns : goal.returns
 unfolding firm_listed
 returns c =
     let f = firm-found _ _ _ c.in-Some.ensures in
-    let at : ListedAt c.args.schedule.now c.in_ok-layout.layout c.args.book.now c.args.code.now c.in-Some.place
+    let at : ListedAt c.args.schedule.now c.in_ok-layout.layout c.args.book.now c.args.code.now c.in-Some.firm
     = record { checked = sym c.in_ok-layout.ensures; listed = f.listed; place = sym f.first } in
     held-month at (sym c.has_excess.ensures ∙ c.if-has_excess.false) c.judged_month.ensures
 

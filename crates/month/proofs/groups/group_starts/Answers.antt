@@ -13,13 +13,13 @@ loop-start-preserved c =
     let v = c.loop-start.invariant in
     let a = c.args in
     record {
-      near = omega (arith, v.near, c.u16_at.type_inv);
-      stands = simp (c.u16_at.ensures, group_next, v.stands);
-      written = rw v.written (table_write (group_start a.schedule.now a.l.first) c.loop-start.start-index c.loop-start.at (replicate 32 0) (omega arith) v.stands);
+      near = omega (arith, v.near, c.u16_at.type_inv, c.from-at.ensures);
+      stands = simp (c.from-at.ensures, c.u16_at.ensures, group_next, v.stands);
+      written = rw v.written (table_write (group_start a.schedule.now.bytes.now a.schedule.now.layout.first) c.loop-start.start-index c.loop-start.at (replicate 32 0) (omega arith) v.stands);
     }
 
 pub returns : goal.returns
 returns c =
     let a = c.args in
     let e : c.loop-start.start-index ≡ 32 = omega arith in
-    rw e at c.loop-start.invariant.written ∙ table_done (group_start a.schedule.now a.l.first) 32 (replicate 32 0) refl
+    rw e at c.loop-start.invariant.written ∙ table_done (group_start a.schedule.now.bytes.now a.schedule.now.layout.first) 32 (replicate 32 0) refl

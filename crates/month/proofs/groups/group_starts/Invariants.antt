@@ -8,6 +8,6 @@ abbrev pub invariant-loop-start : goal.invariant-loop-start
 invariant-loop-start l =
     record {
       near : l.at ≤ l.initial.at + 65535 * l.start-index;
-      stands : l.at ≡ group_start l.schedule l.initial.at l.start-index;
-      written : l.start-items ≡ over (table l.start-index (group_start l.schedule l.initial.at)) l.initial.start-items;
+      stands : l.at ≡ group_start l.schedule.bytes.now l.initial.at l.start-index;
+      written : l.start-items ≡ over (table l.start-index (group_start l.schedule.bytes.now l.initial.at)) l.initial.start-items;
     }

@@ -5,31 +5,30 @@ use mathlib.Core.Path.{sym, ap, ap₂, ◌∙◌}
 use Rattle.rules.specs.Month.{DailyTotals}
 use Rattle.rules.specs.Verdict.{is_violation, days_verdict}
 use Rattle.schedule.proofs.Found.{group-listed}
-use Rattle.book.specs.Book.{totals_in}
-use Rattle.month.specs.Month.{terms}
 use Rattle.month.specs.Parts.{sums_to, verdict_in}
 use Rattle.month.specs.declared.days.MonthSums.{MonthSums}
+use Rattle.month.specs.Firm.{terms_of, totals_of}
 use Rattle.month.proofs.Exempt.{counted_fits, verdict_told, exempt_verdict, exempt_past}
 use Rattle.month.proofs.firm.FirmBook.is_exempt.Goals as goal
 
-pub returns-then-self-g : goal.returns-then-self-g
-returns-then-self-g c =
+pub returns-then-from-g : goal.returns-then-from-g
+returns-then-from-g c =
     let s = c.args.self.now in
-    sym (exempt_past s.schedule.now s.layout s.book.now s.firm c.args.g c.if-self-g.true)
+    sym (exempt_past s.schedule.bytes.now s.schedule.layout s.book.now s.firm c.args.g (rw c.from.ensures at c.if-from-g.true))
 
 pub returns : goal.returns
 unfolding sums_to
 returns c =
     let s = c.args.self.now in
     let g = c.args.g in
-    let t = terms s.schedule.now s.layout in
-    let traffic : DailyTotals = totals_in s.layout.groups s.book.now s.firm in
-    let fit = counted_fits s.schedule.now s.book.now s.firm s.sound g c.requires in
+    let t = terms_of s in
+    let traffic : DailyTotals = totals_of s in
+    let fit = counted_fits s.schedule.bytes.now s.book.now s.firm s.sound g c.requires in
     -- the verdict is that on the group's sums
     let decided = ap verdict_in c.days_verdict.ensures
     ∙ ap₂ (λ (s : MonthSums) B. verdict_in (days_verdict s.days (record { raw = s.raw; score = s.score; lots = s.lots }) B))
-    c.month_sums-s.ensures (ap (λ g. g.benchmark) c.group-benchmark.ensures) in
-    let benchmark = (group-listed s.schedule.now s.sound.checked g c.if-self-g.false).benchmark in
+    c.month_sums-s.ensures (c.from-benchmark.ensures ∙ ap (λ g. g.benchmark) c.group.ensures) in
+    let benchmark = (group-listed s.schedule.bytes.now s.sound.checked g (rw c.from.ensures at c.if-from-g.false)).benchmark in
     ap not (c.is_violation.ensures ∙ ap (λ v. is_violation v.code) (verdict_told c.days_verdict.result c.unwrap_or-verdict.ensures))
     ∙ ap (λ v. not (is_violation v.code)) decided
     ∙ sym (exempt_verdict t traffic g fit benchmark)

@@ -10,16 +10,16 @@ use Rattle.month.specs.Parts.{verdict_in}
 use Rattle.month.proofs.Exempt.{verdict_told, verdict_place}
 use Rattle.month.proofs.firm.FirmBook.place_verdict.Goals as goal
 
-pub returns-then-not-g-l : goal.returns-then-not-g-l
-returns-then-not-g-l c =
-    let e = sym (ap (λ b. ltb (c.args.i % 32) c.args.self.now.layout.groups && b) c.in_effect.ensures) ∙ c.if-not-g-l.true in
+pub returns-then-not-g-from : goal.returns-then-not-g-from
+returns-then-not-g-from c =
+    let e = sym (ap₂ (λ n b. ltb (c.args.i % 32) n && b) c.from.ensures c.in_effect.ensures) ∙ c.if-not-g-from.true in
     rw e
 
 pub returns : goal.returns
 returns c =
     let s = c.args.self.now in
-    let listed = sym (ap (λ b. ltb (c.args.i % 32) s.layout.groups && b) c.in_effect.ensures) ∙ c.if-not-g-l.false in
+    let listed = sym (ap₂ (λ n b. ltb (c.args.i % 32) n && b) c.from.ensures c.in_effect.ensures) ∙ c.if-not-g-from.false in
     verdict_told c.days_verdict.result c.unwrap_or.ensures
     ∙ ap verdict_in c.days_verdict.ensures
-    ∙ ap₂ (λ t B. verdict_in (days_verdict 1 t B)) (ap (λ (e : Cell). e.totals) c.cell_in.ensures) (ap (λ g. g.benchmark) c.group-benchmark.ensures)
-    ∙ verdict_place s.schedule.now (cells s.layout.groups s.book.now s.firm) s.sound c.args.i listed
+    ∙ ap₂ (λ t B. verdict_in (days_verdict 1 t B)) (ap (λ (e : Cell). e.totals) c.cell_in.ensures) (c.from-benchmark.ensures ∙ ap (λ g. g.benchmark) c.group.ensures)
+    ∙ verdict_place s.schedule.bytes.now (cells s.schedule.layout.groups s.book.now s.firm) s.sound c.args.i listed
