@@ -5,27 +5,31 @@ use mathlib.Core.List.{List}
 use mathlib.Core.Path.{◌≡◌, refl, sym, ap, ◌∙◌}
 use native.Mathlib.Omega.{arith}
 use lib.Dec.{eqb, ltb}
-use lib.ListN.{length}
+use lib.ListN.{length, get_or}
 use borrow.Author.Tests.{ltb-false, lt-ltb, le-ltb}
 use Rattle.std.specs.Prelude.{Ok}
 use Rattle.wire.specs.Lists.{table, over}
 use Rattle.wire.specs.Sums.{bit}
 use Rattle.wire.proofs.Lists.{table_at}
 use Rattle.wire.proofs.Sums.{sum_same}
+use Rattle.rules.specs.Verdict.{not_judged}
+use Rattle.rules.specs.declared.Verdict.{Verdict}
+use Rattle.rules.specs.Month.{DailyTotals}
 use Rattle.rules.specs.Marks.{places, group_of, Judged, mark}
 use Rattle.records.specs.Bodies.{body_at}
 use Rattle.records.specs.Fields.{group_fields}
 use Rattle.refusals.specs.Outcome.{Outcome, refused, good}
-use Rattle.lookup.specs.Lookup.{group_start, group_at}
+use Rattle.lookup.specs.Lookup.{group_at}
 use Rattle.lookup.specs.InForce.{rules_of}
 use Rattle.lookup.specs.declared.Layout.{Layout}
 use Rattle.schedule.proofs.Good.{refused-good}
-use Rattle.month.specs.Month.{starts_of, groupings_of, firm_month, month_answer, MonthIs}
+use Rattle.month.specs.Month.{month_of, group_month, groups_of, firm_totals, firm_month, month_answer, MonthIs}
 use Rattle.statement.specs.Layout.{line_size, both_totals}
 use Rattle.statement.specs.Statement.{statement_bytes, need, statement_answer, StatementIs}
-use Rattle.month.specs.Parts.{held_grouping}
+use Rattle.month.specs.Parts.{no_group, held_group}
+use Rattle.month.specs.declared.GroupMonth.{GroupMonth}
 use Rattle.month.specs.declared.Month.{Month}
-use Rattle.statement.specs.Parts.{held_mark, held_factor, held_group, held_need, held_shown, HeldIs}
+use Rattle.statement.specs.Parts.{held_mark, held_factor, held_fields, held_need, held_shown, HeldIs}
 use Rattle.statement.proofs.Shown.{marks-count, bytes-length, shown_same}
 
 module _ (S B C out : List ℕ) where
@@ -64,36 +68,40 @@ module _ (S B C out : List ℕ) where
       go (refused number offset) q = absurd (refused-good (rw q at e))
       go (good l) q = under l (ltb (length out) (need (firm_month S B C l))) refl (rw q at e)
 
--- a month that holds the marks and factors of a judged one, and where the schedule's groups stand and their groupings
-module _ (S : List ℕ) (l : Layout) (j : Judged) (grouped : (i : ℕ) → j.grouping i ≡ (group_at S l (group_of i)).grouping) (m : Month)
-    (o : m.starts ≡ starts_of S l) (q : m.groupings ≡ groupings_of S l) (p : m.marks ≡ table places (mark (rules_of S) j))
-    (r : m.factors ≡ table places (λ i. (j.verdict i).factor)) where
+-- a month that holds the groups, verdicts and marks of a judged one
+module _ (S : List ℕ) (l : Layout) (c : DailyTotals) (m : Month)
+    (q : m.groups ≡ groups_of S l c) (r : m.verdicts ≡ table places (month_of S l c).verdict) (p : m.marks ≡ table places (mark (rules_of S) (month_of S l c))) where
+  abbrev j : Judged
+  j = month_of S l c
+
   held-mark : (i : ℕ) → i < places → held_mark m i ≡ mark (rules_of S) j i
   held-mark i h = rw p (table_at (mark (rules_of S) j) places i 0 h)
 
   held-factor : (i : ℕ) → i < places → held_factor m i ≡ (j.verdict i).factor
-  held-factor i h = rw r (table_at (λ i. (j.verdict i).factor) places i 0 h)
+  held-factor i h =
+      let v : get_or m.verdicts i not_judged ≡ j.verdict i = rw r (table_at j.verdict places i not_judged h) in
+      ap (λ (v : Verdict). v.factor) v
 
-  held-grouping : (i : ℕ) → i < places → held_grouping m.groupings i ≡ j.grouping i
-  held-grouping i h = rw (q, grouped) (table_at (λ g. (group_at S l g).grouping) 32 (group_of i) 0 (omega arith))
+  held-group : (i : ℕ) → i < places → held_group m.groups i ≡ group_month S l c (group_of i)
+  held-group i h = rw q (table_at (group_month S l c) 32 (group_of i) no_group (omega arith))
 
-  held-group : (i : ℕ) → i < places → held_group S m (group_of i) ≡ group_at S l (group_of i)
-  held-group i h = rw o (ap (λ at. group_fields (body_at S at)) (table_at (group_start S l.first) 32 (group_of i) 0 (omega arith)))
+  held-fields : (i : ℕ) → i < places → held_fields S m (group_of i) ≡ group_at S l (group_of i)
+  held-fields i h = ap (λ (g : GroupMonth). group_fields (body_at S g.start)) (held-group i h)
 
-  pub held-need : held_need m ≡ need j
-  held-need =
+  pub held_need_is : held_need m ≡ need j
+  held_need_is =
       ap (λ (n : ℕ). line_size * n + both_totals)
       (sum_same places _ _ (λ i h. ap (λ (k : ℕ). bit (not (eqb k 0))) (held-mark i h)) ∙ marks-count (rules_of S) j)
 
-  pub held-shown : held_shown (rules_of S) S m ≡ statement_bytes S l j
-  held-shown = shown_same (rules_of S) _ _ _ _ _ _ _ _ held-group held-grouping held-mark held-factor
+  pub held_shown_is : held_shown (rules_of S) S m ≡ statement_bytes S l j
+  held_shown_is =
+      shown_same (rules_of S) _ _ _ _ _ _ _ _ held-fields (λ i h. ap (λ (g : GroupMonth). g.grouping) (held-group i h)) held-mark held-factor
 
 -- what is written of a firm's month, or refused by 23, is the firm's statement
 pub stated : (S B C out : List ℕ) {m : Month} {a : Outcome ℕ} {out' : List ℕ} → MonthIs S B C (Ok m) → HeldIs S m out a out' → StatementIs S B C out a out'
 stated S B C out {m} told w =
     let e = sym told.answer in
     let h = told.held in
-    let j = firm_month S B C m.layout in
-    let n = held-need S m.layout j (λ i. refl) m h.starts h.groupings h.marks h.factors in
-    let s = held-shown S m.layout j (λ i. refl) m h.starts h.groupings h.marks h.factors in
+    let n = held_need_is S m.layout (firm_totals S B C m.layout) m h.groups h.verdicts h.marks in
+    let s = held_shown_is S m.layout (firm_totals S B C m.layout) m h.groups h.verdicts h.marks in
     record { answer = rw e (rw (n, s) at w.answer); output = rw e (rw (n, s) at w.output) }
