@@ -1,6 +1,7 @@
 // Codes are turned into marks.
-ghost use Rattle.std.specs.Prelude.{cond, ◌≡◌, ◌+◌, ◌≤◌, ◌<◌, eqb};
+ghost use Rattle.std.specs.Prelude.{cond, ◌&&◌, ◌≡◌, ◌+◌, ◌≤◌, ◌<◌, eqb};
 ghost use Rattle.wire.specs.Lists.{table};
+ghost use Rattle.wire.specs.Sums.{bit};
 ghost use Rattle.rules.specs.Marks.{places, mark_of, mark};
 ghost use Rattle.month.specs.Parts.{held, held_code, Grouped};
 
@@ -8,6 +9,7 @@ use crate::GroupMonth;
 use rules::{GROUPS, PLACES, Rules, Verdict, is_violation};
 
 // The mark of a code, where so many were left before it in its exchange grouping.
+#[tactic(auto, unfolding(wire::specs::Choose::choose))]
 fn mark_of(p: Rules, code: u8, exempt: bool, before: u16) -> u8
     ensures { result ≡ mark_of p code exempt before }
 {
@@ -45,21 +47,15 @@ impl Left {
         }
     }
 
-    // The counts with n more in a grouping.
-    fn with_count(self, grouping: u8, n: u16) -> Left
-        requires { (self.first < 1000) × (self.second < 1000) × (n ≤ 1) }
-        ensures { (result.first ≡ self.first + cond (eqb grouping 1) n 0) × (result.second ≡ self.second + cond (eqb grouping 2) n 0) }
+    // The counts with a place of a grouping, which was left or not.
+    fn with_place(self, grouping: u8, left: bool) -> Left
+        requires { (self.first < 1000) × (self.second < 1000) }
+        ensures first { result.first ≡ self.first + bit (eqb grouping 1 && left) }
+        ensures second { result.second ≡ self.second + bit (eqb grouping 2 && left) }
     {
-        match grouping {
-            1 => Left {
-                first: self.first + n,
-                ..self
-            },
-            2 => Left {
-                second: self.second + n,
-                ..self
-            },
-            _ => self,
+        Left {
+            first: self.first + u16::from((grouping == 1) & left),
+            second: self.second + u16::from((grouping == 2) & left),
         }
     }
 }
@@ -89,7 +85,7 @@ pub(crate) fn give_marks(
         let code = marks[i];
         let group = groups[i % GROUPS];
         marks[i] = mark_of(p, code, group.exempt, left.count_in(group.grouping));
-        left = left.with_count(group.grouping, u16::from((code == 4) & !group.exempt));
+        left = left.with_place(group.grouping, (code == 4) & !group.exempt);
     }
     marks
 }

@@ -1,20 +1,17 @@
 -- The marks of the places passed are over the front of the codes, and each counter holds how many were left so far in its exchange grouping.
 use mathlib.Core.Path.{◌≡◌, refl, ◌∙◌}
-use Prim.Native.Nat.{◌≤◌}
 use native.Mathlib.Omega.{arith}
-use lib.Dec.{eqb}
 use lib.ListN.{length, get_or}
 use Rattle.wire.proofs.Lists.{joined-none, table_read, table_write, table_done}
-use Rattle.wire.proofs.Sums.{bit_in, bit_most, sum-none, sum_more, count_most}
+use Rattle.wire.proofs.Sums.{sum-none, sum_more, count_most}
 use Rattle.rules.specs.Marks.{places, Judged, left as left_in, mark}
 use Rattle.month.specs.Parts.{held}
-use Rattle.month.proofs.Waivers.{mark_by, from_bool_bit}
+use Rattle.month.proofs.Waivers.{mark_by}
 use Rattle.month.proofs.marks.give_marks.Goals as goal
 
-pub with_count-left-requires : goal.with_count-left-requires
-with_count-left-requires c =
+pub with_place-left-requires : goal.with_place-left-requires
+with_place-left-requires c =
     let j : Judged = held c.args.marks c.args.groups.now in
-    let k : c.from.result ≤ 1 = rw (c.from.ensures, from_bool_bit) (bit_most _) in
     omega (arith, count_most c.loop-i.i (left_in j 1), count_most c.loop-i.i (left_in j 2), c.loop-i.invariant)
 
 pub loop-i-preserved : goal.loop-i-preserved
@@ -29,8 +26,8 @@ loop-i-preserved c =
     = rw (c.mark_of.ensures, read, c.count_in.ensures, v.first, v.second) (mark_by a.p j i (c.requires i c.loop-i-test.true)) in
     record {
       marked = rw v.marked (table_write (mark a.p j) i c.mark_of.result a.marks (omega (arith, long)) given);
-      first = rw (c.with_count-left.ensures.0, v.first, c.from.ensures, from_bool_bit, read, sum_more, bit_in (eqb (j.grouping i) 1));
-      second = rw (c.with_count-left.ensures.1, v.second, c.from.ensures, from_bool_bit, read, sum_more, bit_in (eqb (j.grouping i) 2));
+      first = rw (c.with_place-left.ensures.first, v.first, read, sum_more);
+      second = rw (c.with_place-left.ensures.second, v.second, read, sum_more);
     }
 
 pub returns : goal.returns
