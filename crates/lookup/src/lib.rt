@@ -46,6 +46,7 @@ impl<'a> Schedule<'a> {
     }
 
     // The group with a code.
+    #[tactic(auto, using(wire::proofs::Choose::seek_hit, wire::proofs::Choose::seek_end), unfolding(crate::specs::Lookup::group_found, crate::specs::Lookup::group_listed, crate::specs::Lookup::group_is))]
     pub fn find_group(&self, code: [u8; 2]) -> Option<GroupPlace>
         ensures { result ≡ group_found self.now.bytes.now self.now.layout code }
     {

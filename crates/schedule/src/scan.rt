@@ -102,7 +102,7 @@ impl Kind {
         }
     }
 
-    #[tactic(auto, using(lookup::proofs::Laws::some_found), unfolding(crate::specs::Check::is_repeated, lookup::specs::Lookup::group_found, lookup::specs::Lookup::firm_found,),)]
+    #[tactic(auto, using(lookup::proofs::Laws::some_found), unfolding(crate::specs::Check::is_repeated, lookup::specs::Lookup::group_found, lookup::specs::Lookup::firm_found))]
     fn is_repeated(self, before: &Schedule, body: &[u8]) -> bool
         ensures { result ≡ is_repeated self before.now.bytes.now before.now.layout body.now }
     {
