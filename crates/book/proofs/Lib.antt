@@ -1,4 +1,3 @@
 pub mod Checked
 pub mod Places
-pub mod Answers
 pub mod Taken

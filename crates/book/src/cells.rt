@@ -20,7 +20,7 @@ pub const PER_FIRM_GROUP: usize = 31 * WIDTH;
 pub(crate) fn book_size(l: Layout) -> usize
     ensures { result ≡ size l }
 {
-    PER_FIRM_GROUP * (l.groups as usize) * (l.firms as usize)
+    PER_FIRM_GROUP * usize::from(l.groups) * usize::from(l.firms)
 }
 
 // Where a cell's numbers start: firm and group counted from 0, the day from 1.
@@ -59,7 +59,7 @@ pub(crate) fn cell_at(book: &[u64], at: usize) -> Cell
 pub fn cell_in(book: &[u64], groups: u8, firm: u8, group: u8, day: u8) -> Cell
     ensures { result ≡ cells groups book.now firm group day }
 {
-    if !((group < groups) & within(1, 31, day as u32)) {
+    if !((group < groups) & within(1, 31, u32::from(day))) {
         return Cell::default();
     }
     cell_at(book, cell_index(groups, firm, group, day))

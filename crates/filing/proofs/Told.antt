@@ -4,17 +4,13 @@ use mathlib.Core.Bool.{Bool, true, false, cond}
 use mathlib.Core.List.{List}
 use mathlib.Core.Path.{◌≡◌, refl}
 use lib.Dec.{eqb}
-use borrow.Author.Tests.{eqb-true, eqb-false, ne_eqb}
+use borrow.Author.Tests.{eqb-true, eqb-false}
 use Rattle.wire.specs.Choose.{choose}
 use Rattle.lookup.specs.declared.Layout.{Layout}
 use Rattle.filing.specs.Causes.{firm_place_of, group_place_of, is_counted_record}
 use Rattle.filing.specs.Filing.{Filing, refused_by, is_outside, counted_in, filing_by}
 
 module _ (S : List ℕ) (l : Layout) (R : List ℕ) (cs : List (Bool × ℕ)) where
-  pub is-refused : {n : ℕ} → choose cs 0 ≡ n → (n ≡ 0 → ⊥) → refused_by n ≡ filing_by S l R cs
-  unfolding filing_by
-  is-refused {n} e some = rw (e, ne_eqb n 0 some)
-
   -- what a refusal tells
   pub record Stopped (n : ℕ) : Type 0 where
     pub first : choose cs 0 ≡ n

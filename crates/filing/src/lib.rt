@@ -50,7 +50,7 @@ fn check_form(record: &[u8]) -> Result<(), Cause>
         return Err(Cause::WrongKind);
     }
     let due = due_length(record);
-    if (u16_at(record, 0) as usize == due) & (record.len() == due) {
+    if (usize::from(u16_at(record, 0)) == due) & (record.len() == due) {
         return Ok(());
     }
     Err(Cause::WrongSize)
