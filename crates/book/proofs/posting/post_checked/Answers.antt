@@ -1,5 +1,5 @@
--- Each way that the schedule takes a record is one of the answers; a record that is counted has its cell inside the book.
-use Rattle.std.proofs.Common.{◌≡◌, true, ℕ, List, refl, sym, ap, ◌∙◌, length, arith}
+-- A record that is counted has its cell inside the book, and what entering it there comes to is what the post comes to.
+use Rattle.std.proofs.Common.{◌≡◌, ℕ, List, refl, sym, ap, ◌∙◌, length, arith}
 use Rattle.std.specs.Prelude.{Ok}
 use Rattle.wire.proofs.Choose.{passed}
 use Rattle.filing.specs.Causes.{record_causes}
@@ -7,7 +7,7 @@ use Rattle.filing.specs.Filing.{filed_meaning, filing_of}
 use Rattle.filing.specs.declared.Filed.{Filed}
 use Rattle.filing.specs.declared.Filed.TheVariants as filed
 use Rattle.lookup.specs.declared.Layout.{Layout}
-use Rattle.filing.proofs.Told.{Passing, Located, told}
+use Rattle.filing.proofs.Told.{Located, located}
 use Rattle.book.specs.Book.{index, cell_at, check_book}
 use Rattle.book.specs.Post.{index_of, taking, EnterIs, PostIs}
 use Rattle.book.specs.declared.posting.Effect.{Effect}
@@ -21,10 +21,10 @@ use Rattle.book.proofs.posting.post_checked.Goals as goal
 -- a counted record has a firm and a group, and passed 11 to 17 and 31
 module _ (S : List ℕ) (l : Layout) (R : List ℕ) {t : Filed} {f g : ℕ} (known : filed_meaning (Ok t) ≡ filing_of S l R) (at : t ≡ filed.At f g) where
   placed : Located S l R (record_causes S l R) f g
-  placed = told _ _ _ _ (sym (ap (λ x. filed_meaning (Ok x)) at) ∙ known)
+  placed = located _ _ _ _ (sym (ap (λ x. filed_meaning (Ok x)) at) ∙ known)
 
   passes : Admitted S l R
-  passes = admitted _ _ _ (passed _ refl placed.passing.none)
+  passes = admitted _ _ _ (passed _ refl placed.none)
 
 -- equal places are of one cell
 index_same : (G : ℕ) {f f' g g' d d' : ℕ} → f ≡ f' → g ≡ g' → d ≡ d' → index G f g d ≡ index G f' g' d'
@@ -39,8 +39,8 @@ enter-requires c =
     (omega (arith, admitted_inside _ _ _ p, (sized _ _ c.requires).room))
 
 -- what entering the record into its cell came to is what the post comes to
-goes_in : (S B R : List ℕ) {l : Layout} {i : ℕ} {r : Outcome Effect} {B' : List ℕ}
-    → check_book S (length B) ≡ good l → Passing S l R (record_causes S l R) true → i ≡ index_of S l R → EnterIs B i R r B' → PostIs S B R r B'
+goes_in : (S B R : List ℕ) {l : Layout} {f g i : ℕ} {r : Outcome Effect} {B' : List ℕ}
+    → check_book S (length B) ≡ good l → Located S l R (record_causes S l R) f g → i ≡ index_of S l R → EnterIs B i R r B' → PostIs S B R r B'
 unfolding taking
 goes_in S B R {l} e h p a =
     let c = cell_at B (index_of S l R) in
@@ -51,4 +51,4 @@ pub returns-in-At : goal.returns-in-At
 returns-in-At c =
     let known = sym (ap filed_meaning c.in_ok-file.was) ∙ c.file.ensures in
     let here = placed _ _ _ known c.in-At.is in
-    goes_in _ _ _ c.requires here.passing (c.cell_index-at.ensures ∙ index_same _ here.firm here.group c.byte_at.ensures) c.enter.ensures
+    goes_in _ _ _ c.requires here (c.cell_index-at.ensures ∙ index_same _ here.firm here.group c.byte_at.ensures) c.enter.ensures
