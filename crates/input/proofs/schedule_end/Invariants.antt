@@ -5,7 +5,4 @@ use Rattle.input.specs.Input.{bytes_before, schedule_of}
 use Rattle.input.proofs.schedule_end.Given as goal
 
 abbrev pub invariant-loop-record : goal.invariant-loop-record
-invariant-loop-record l =
-    (l.end + length (bytes_before (records_in l.record-iterator)) ≡ length (schedule_of l.input)) ×
-    (goal.iterator-loop-record).can_next l.record-iterator ×
-    (goal.iterator-loop-record).is_finite l.record-iterator
+invariant-loop-record l = l.end + length (bytes_before (records_in l.record-iterator)) ≡ length (schedule_of l.input)
