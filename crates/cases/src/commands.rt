@@ -6,6 +6,7 @@ ghost use Rattle.script.specs.Script.{past_in};
 use crate::stop::Stop;
 use script::Script;
 
+// A command, with its operands.
 #[derive(Clone, Copy, Debug, PartialEq, Eq)]
 pub(crate) enum Command<'a> {
     // S: the schedule of the calls that follow.
@@ -32,7 +33,7 @@ pub(crate) enum Command<'a> {
         firm: &'a [u8],
         size: usize,
     },
-    // V: the verdict on a day.
+    // V: the verdict on a day's raw count, score, lots and benchmark.
     Verdict {
         raw: u64,
         score: u64,
@@ -43,7 +44,7 @@ pub(crate) enum Command<'a> {
     Digest,
 }
 
-// Reads the command at a script's place, of which its byte takes one place at least.
+// Reads the next command. Its own byte is a step on at least, so a script's commands end.
 fn read_command<'a>(script: &mut Script<'a>) -> Result<Command<'a>, Stop>
     ensures bytes { script.new.bytes.now ≡ script.old.bytes.now }
     ensures on { past_in script.old.bytes.now script.old.at 1 ≤ script.new.at }
