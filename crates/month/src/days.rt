@@ -56,15 +56,15 @@ impl MonthSums {
             days: self.days + 1,
         }
     }
-}
 
-// The sums with a day, which is counted or not.
-fn with_cell(sums: MonthSums, counted: bool, t: Totals) -> MonthSums
-    requires within { Within 30 sums }
-    requires t_value { counted ≡ true → fits 1 t ≡ true }
-    ensures { result ≡ cond counted (with_day sums t) sums }
-{
-    if counted { sums.with_day(t) } else { sums }
+    // The sums with a day, which is counted or not.
+    fn with_cell(self, counted: bool, t: Totals) -> MonthSums
+        requires within { Within 30 self }
+        requires t_value { counted ≡ true → fits 1 t ≡ true }
+        ensures { result ≡ cond counted (with_day self t) self }
+    {
+        if counted { self.with_day(t) } else { self }
+    }
 }
 
 impl FirmBook<'_> {
@@ -78,7 +78,7 @@ impl FirmBook<'_> {
         for d in 0..31 {
             let t = cell_in(self.book, l.groups, self.firm, group, d + 1).totals;
             let counted = in_effect(l.month, l.closed, d + 1) & (0 < t.raw);
-            sums = with_cell(sums, counted, t);
+            sums = sums.with_cell(counted, t);
         }
         sums
     }

@@ -28,6 +28,7 @@ pub(crate) fn group_starts(schedule: &Schedule) -> [usize; GROUPS]
 
 impl FirmBook<'_> {
     // The fields of group g.
+    #[tactic(auto, using(wire::proofs::Lists::table_at))]
     pub(crate) fn group(&self, g: usize) -> Group
         requires { g < most_groups }
         ensures { result ≡ group_at (bytes_of self.now) (layout_of self.now) g }

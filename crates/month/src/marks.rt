@@ -48,6 +48,7 @@ impl Left {
     }
 
     // The counts with a place of a grouping, which was left or not.
+    #[tactic(auto, using(crate::proofs::Waivers::from_bool_bit))]
     fn with_place(self, grouping: u8, left: bool) -> Left
         requires { (self.first < 1000) × (self.second < 1000) }
         ensures first { result.first ≡ self.first + bit (eqb grouping 1 && left) }

@@ -8,13 +8,8 @@ use Rattle.schedule.proofs.Found.{group-listed}
 use Rattle.month.specs.Parts.{sums_to, verdict_in}
 use Rattle.month.specs.declared.days.MonthSums.{MonthSums}
 use Rattle.month.specs.Firm.{terms_of, totals_of}
-use Rattle.month.proofs.Exempt.{counted_fits, verdict_told, exempt_verdict, exempt_past}
+use Rattle.month.proofs.Exempt.{counted_fits, verdict_told, exempt_verdict}
 use Rattle.month.proofs.firm.FirmBook.is_exempt.Goals as goal
-
-pub returns-then-from-g : goal.returns-then-from-g
-returns-then-from-g c =
-    let s = c.args.self.now in
-    sym (exempt_past s.schedule.bytes.now s.schedule.layout s.book.now s.firm c.args.g (rw c.from.ensures at c.if-from-g.true))
 
 pub returns : goal.returns
 unfolding sums_to

@@ -10,11 +10,6 @@ use Rattle.month.specs.Parts.{verdict_in}
 use Rattle.month.proofs.Exempt.{verdict_told, verdict_place}
 use Rattle.month.proofs.firm.FirmBook.place_verdict.Goals as goal
 
-pub returns-then-not-g-from : goal.returns-then-not-g-from
-returns-then-not-g-from c =
-    let e = sym (ap₂ (λ n b. ltb (c.args.i % 32) n && b) c.from.ensures c.in_effect.ensures) ∙ c.if-not-g-from.true in
-    rw e
-
 pub returns : goal.returns
 returns c =
     let s = c.args.self.now in
