@@ -37,6 +37,7 @@ impl FirmBook<'_> {
     }
 
     // Group g in the firm's month.
+    #[tactic(auto, using(wire::proofs::Lists::table_at))]
     fn group_month(&self, g: usize) -> GroupMonth
         requires { g < most_groups }
         ensures { result ≡ group_month (bytes_of self.now) (layout_of self.now) (totals_of self.now) g }

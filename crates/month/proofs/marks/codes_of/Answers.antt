@@ -7,11 +7,3 @@ use Rattle.month.proofs.marks.codes_of.Goals as goal
 
 pub loop-i-init : goal.loop-i-init
 loop-i-init c = rw joined-none refl
-
-pub loop-i-preserved : goal.loop-i-preserved
-loop-i-preserved c = rw c.loop-i.invariant (table_write (held_code c.args.verdicts.now) c.loop-i.i _ (replicate places 0) (omega arith) refl)
-
-pub returns : goal.returns
-returns c =
-    let e : c.loop-i.i ≡ places = omega arith in
-    rw e at c.loop-i.invariant ∙ table_done (held_code c.args.verdicts.now) places (replicate places 0) refl
