@@ -62,7 +62,7 @@ impl Left {
 }
 
 // The codes of the places.
-#[tactic(auto, using(wire::proofs::Lists::table_write, wire::proofs::Lists::table_done))]
+#[tactic(auto, using(crate::proofs::Calls::filling))]
 pub(crate) fn codes_of(verdicts: &[Verdict; PLACES]) -> [u8; PLACES]
     ensures { result ≡ table places (held_code verdicts.now) }
 {
