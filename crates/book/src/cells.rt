@@ -8,7 +8,7 @@ use lookup::Layout;
 use refusals::{Cause, Refusal};
 use rules::Totals;
 use schedule::check;
-use wire::within;
+use wire::item_or;
 
 // How many numbers a cell has.
 const WIDTH: usize = 4;
@@ -32,26 +32,19 @@ pub(crate) fn cell_index(groups: u8, firm: u8, group: u8, day: u8) -> usize
     (row * 31 + usize::from(day) - 1) * WIDTH
 }
 
-// A number of the book, 0 past its end.
-fn number_at(book: &[u64], i: usize) -> u64
-    ensures { result ≡ get_or book.now i 0 }
-{
-    book.get(i).copied().unwrap_or(0)
-}
-
 // The cell at a place.
 pub(crate) fn cell_at(book: &[u64], at: usize) -> Cell
     requires { at < 2 ^ 60 }
     ensures { result ≡ cell_at book.now at }
 {
     let totals = Totals {
-        raw: number_at(book, at),
-        score: number_at(book, at + 1),
-        lots: number_at(book, at + 2),
+        raw: item_or(book, at, 0),
+        score: item_or(book, at + 1, 0),
+        lots: item_or(book, at + 2, 0),
     };
     Cell {
         totals,
-        edition: number_at(book, at + 3),
+        edition: item_or(book, at + 3, 0),
     }
 }
 

@@ -5,32 +5,23 @@
 ghost use Rattle.std.specs.Prelude.{◌≡◌, ◌+◌, ◌≤◌, min, length, drop, get_or};
 ghost use Rattle.std.specs.Iterator.{YieldsFirstRef, item_count};
 ghost use Rattle.wire.specs.Bytes.{u16_at, u32_at};
-ghost use Rattle.wire.specs.Choose.{within};
 ghost use Rattle.wire.specs.Cut.{first_length, cut, records_in};
 ghost use Rattle.wire.specs.Lists.{table, over};
-ghost use Rattle.wire.specs.Sums.{bit};
 
 use std::array;
 
-// 1 where a test holds, else 0.
-pub fn bit(test: bool) -> u8
-    ensures { (result ≡ bit test) × (result ≤ 1) }
+// The item at a place, or another one past the end.
+pub fn item_or<T: Copy>(items: &[T], at: usize, other: T) -> T
+    ensures { result ≡ get_or items.now at other }
 {
-    u8::from(test)
-}
-
-// A number from lo to hi.
-pub fn within(lo: u32, hi: u32, x: u32) -> bool
-    ensures { result ≡ within lo hi x }
-{
-    (lo..=hi).contains(&x)
+    items.get(at).copied().unwrap_or(other)
 }
 
 // The byte at a place.
 pub fn byte_at(s: &[u8], at: usize) -> u8
     ensures { result ≡ get_or s.now at 0 }
 {
-    s.get(at).copied().unwrap_or(0)
+    item_or(s, at, 0)
 }
 
 // The bytes from a place to the end.
