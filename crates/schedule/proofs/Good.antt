@@ -28,7 +28,7 @@ use Rattle.schedule.specs.declared.scan.Kind.{Kind}
 use Rattle.schedule.specs.declared.scan.Kind.TheVariants as kind
 use Rattle.schedule.proofs.Numbers.{HasNumber, kind_number}
 use Rattle.lookup.proofs.Laws.{group_next, group-first}
-use Rattle.schedule.proofs.Turns.{taken, accepted, scan_end, scan-refused, scan-next}
+use Rattle.schedule.proofs.Turns.{taken, accepted, scan_end, scan_refused, scan_next}
 
 pub refused-good : {A : Type 0} {n o : ℕ} {a : A} → refused n o ≡ good a → ⊥
 refused-good e = let z : ◌≡◌ {A = ℕ} 0 1 = cc in omega arith
@@ -318,10 +318,10 @@ module _ (S : List ℕ) {k o : ℕ} where
           let z = eqb-true (cause S p) 0 t in
           let on = accepted S p (leb-false _ _ s) z fine in
           let q : suc n - 1 ≡ n = omega arith in
-          rest (omega (arith, on, leb-false (length S) p.at s)) on.0 (rw q at (sym (scan-next S p (suc n) (omega arith) (leb-false _ _ s) z)) ∙ e)
+          rest (omega (arith, on, leb-false (length S) p.at s)) on.0 (rw q at (sym (scan_next S p (suc n) (omega arith) (leb-false _ _ s) z)) ∙ e)
       by false false s t rest =
           let z = eqb-false (cause S p) 0 t in
-          let q : cause S p ≡ k = let r = sym (scan-refused S p (suc n) (omega arith) (leb-false _ _ s) z) ∙ e in cc in
+          let q : cause S p ≡ k = let r = sym (scan_refused S p (suc n) (omega arith) (leb-false _ _ s) z) ∙ e in cc in
           omega (arith, cause_most S p, z)
 
 pub numbered : (S : List ℕ) → Numbered S

@@ -45,15 +45,15 @@ module _ (S : List ℕ) (p : Cursor) where
   scan_end zero h l = absurd (omega arith)
   scan_end (suc n) h l = chosen (here (le-leb _ _ l))
 
-  pub scan-refused : (n : ℕ) → 0 < n → p.at < length S → (cause S p ≡ 0 → ⊥) → scan S n p ≡ refused (cause S p) p.at
+  pub scan_refused : (n : ℕ) → 0 < n → p.at < length S → (cause S p ≡ 0 → ⊥) → scan S n p ≡ refused (cause S p) p.at
   unfolding scan
-  scan-refused zero h l z = absurd (omega arith)
-  scan-refused (suc n) h l z = chosen (next (lt-leb _ _ l) (next (ne_eqb _ _ z) done))
+  scan_refused zero h l z = absurd (omega arith)
+  scan_refused (suc n) h l z = chosen (next (lt-leb _ _ l) (next (ne_eqb _ _ z) done))
 
-  pub scan-next : (n : ℕ) → 0 < n → p.at < length S → cause S p ≡ 0 → scan S n p ≡ scan S (n - 1) (after S p)
+  pub scan_next : (n : ℕ) → 0 < n → p.at < length S → cause S p ≡ 0 → scan S n p ≡ scan S (n - 1) (after S p)
   unfolding scan
-  scan-next zero h l z = absurd (omega arith)
-  scan-next (suc n) h l z = let q : suc n - 1 ≡ n = omega arith in rw q (chosen (next (lt-leb _ _ l) (here (eq-eqb _ _ z))))
+  scan_next zero h l z = absurd (omega arith)
+  scan_next (suc n) h l z = let q : suc n - 1 ≡ n = omega arith in rw q (chosen (next (lt-leb _ _ l) (here (eq-eqb _ _ z))))
 
   -- a record that is not refused leads to a place further on, in bounds again
   further : (k : Kind) → is_due k p ≡ true → length_ok k (length_at S p.at) ≡ true → length_at S p.at ≤ length S - p.at

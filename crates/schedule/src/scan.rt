@@ -229,6 +229,7 @@ impl Scan<'_> {
 }
 
 // Checks a whole schedule: the first cause of refusal and its record's offset, or what the schedule holds.
+#[tactic(auto, using(crate::proofs::Turns::scan_end, crate::proofs::Turns::scan_refused, crate::proofs::Turns::accepted, refusals::proofs::Causes::not_0), unfolding(crate::specs::Check::ending))]
 pub fn check(schedule: &[u8]) -> Result<Layout, Refusal>
     ensures { outcome result ≡ check_of schedule.now }
 {
