@@ -32,7 +32,7 @@ struct Cursor {
 }
 
 // A schedule, and where its check stands: in bounds, with no more records before it than a schedule has.
-#[derive(Drop)]
+#[derive(Clone, Copy, Debug, PartialEq, Eq)]
 struct Scan<'a> {
     bytes: &'a [u8],
     place: Cursor,
