@@ -10,7 +10,7 @@ use statement::{
     LINE_DAY, LINE_DOLLARS, LINE_GROUP, LINE_MARK, TOTALS_AUTOMATIC, TOTALS_BILLED, TOTALS_DOLLARS,
     TOTALS_GROUPING, TOTALS_MONTHLY, TOTALS_VIOLATIONS,
 };
-use wire::{byte_at, u16_at, u32_at};
+use wire::{byte_at, bytes_at, u16_at, u32_at};
 
 // A line other than a violation or totals: an input that is too long, the month's heading, a refused record, a refused schedule or book.
 #[derive(Clone, Copy, Debug, PartialEq, Eq)]
@@ -61,7 +61,7 @@ impl Output<'_> {
     pub fn put_violation(&mut self, code: &[u8], line: &[u8])
         ensures { Wrote self.old (violation_line code.now line.now) self.new }
     {
-        let group = [byte_at(line, LINE_GROUP), byte_at(line, LINE_GROUP + 1)];
+        let group: [u8; 2] = bytes_at(line, LINE_GROUP);
         self.put(code);
         self.put_field(u64::from(byte_at(line, LINE_DAY)));
         self.put(b" ");
