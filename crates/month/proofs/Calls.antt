@@ -17,12 +17,9 @@ use Rattle.std.proofs.iter.Yields.{nat_range_steps}
 use Rattle.std.proofs.lemmas.Iterator.{YieldsList-from_range, cases_from_any}
 use Rattle.std.proofs.lemmas.List.FromFn.{length-range_with_len, get_or-range_with_len}
 use Rattle.wire.specs.Lists.{table}
-use Rattle.wire.proofs.Lists.{joined-none, length-table, table_at, table_write, table_done}
+use Rattle.wire.proofs.Lists.{joined-none, length-table, table_at}
 use Rattle.wire.specs.Choose.{some}
 use Rattle.wire.proofs.Choose.{some_at, none_some}
-
--- an array that is filled from the front
-pub ruleset filling = (joined-none, table_write, table_done)
 
 module _ {F A : Type 0} (g : Mut F (ℕ × Unit {0}) A) (f : F) (v : ℕ → A) where
   -- a list of the items v is their table

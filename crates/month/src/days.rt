@@ -69,6 +69,7 @@ impl MonthSums {
 
 impl FirmBook<'_> {
     // The sums of a group of the firm over the month.
+    #[tactic(auto, using(crate::proofs::Exempt::sums_more))]
     fn month_sums(&self, group: u8) -> MonthSums
         requires { group < most_groups }
         ensures { result ≡ sums_to (terms_of self.now) (totals_of self.now) group 31 }

@@ -14,6 +14,7 @@ use std::array;
 use wire::u16_at;
 
 // Where the groups stand in the schedule. Past the last group the places mean nothing, and no verdict goes by them.
+#[tactic(auto, using(crate::proofs::Loops::walking))]
 pub(crate) fn group_starts(schedule: &Schedule) -> [usize; GROUPS]
     ensures { result ≡ starts_of schedule.now.bytes.now schedule.now.layout }
 {

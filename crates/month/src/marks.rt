@@ -62,7 +62,7 @@ impl Left {
 }
 
 // The codes of the places.
-#[tactic(auto, using(crate::proofs::Calls::filling))]
+#[tactic(auto, using(crate::proofs::Loops::filling))]
 pub(crate) fn codes_of(verdicts: &[Verdict; PLACES]) -> [u8; PLACES]
     ensures { result ≡ table places (held_code verdicts.now) }
 {
@@ -74,6 +74,7 @@ pub(crate) fn codes_of(verdicts: &[Verdict; PLACES]) -> [u8; PLACES]
 }
 
 // Turns the codes of the places into marks.
+#[tactic(auto, using(crate::proofs::Loops::filling, crate::proofs::Loops::counting))]
 pub(crate) fn give_marks(
     p: Rules,
     mut marks: [u8; PLACES],

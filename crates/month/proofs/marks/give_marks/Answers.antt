@@ -1,18 +1,13 @@
 -- The marks of the places passed are over the front of the codes, and each counter holds how many were left so far in its exchange grouping.
-use mathlib.Core.Path.{◌≡◌, refl, ◌∙◌}
+use mathlib.Core.Path.{◌≡◌}
 use native.Mathlib.Omega.{arith}
 use lib.ListN.{length, get_or}
-use Rattle.wire.proofs.Lists.{joined-none, table_read, table_write, table_done}
-use Rattle.wire.proofs.Sums.{sum-none, sum_more, count_most}
-use Rattle.rules.specs.Marks.{places, Judged, left as left_in, mark}
+use Rattle.wire.proofs.Lists.{table_read, table_write}
+use Rattle.wire.proofs.Sums.{sum_more}
+use Rattle.rules.specs.Marks.{places, Judged, mark}
 use Rattle.month.specs.Parts.{held}
 use Rattle.month.proofs.Waivers.{mark_by}
 use Rattle.month.proofs.marks.give_marks.Goals as goal
-
-pub with_place-left-requires : goal.with_place-left-requires
-with_place-left-requires c =
-    let j : Judged = held c.args.marks c.args.groups.now in
-    omega (arith, count_most c.loop-i.i (left_in j 1), count_most c.loop-i.i (left_in j 2), c.loop-i.invariant)
 
 pub loop-i-preserved : goal.loop-i-preserved
 loop-i-preserved c =
@@ -29,14 +24,3 @@ loop-i-preserved c =
       first = rw (c.with_place-left.ensures.first, v.first, read, sum_more);
       second = rw (c.with_place-left.ensures.second, v.second, read, sum_more);
     }
-
-pub returns : goal.returns
-returns c =
-    let a = c.args in
-    let e : c.loop-i.i ≡ places = omega arith in
-    let long : length a.marks ≡ places = omega arith in
-    rw e at c.loop-i.invariant.marked
-    ∙ table_done (mark a.p (held a.marks a.groups.now)) places a.marks long
-
-pub loop-i-init : goal.loop-i-init
-loop-i-init c = rw (joined-none, sum-none, sum-none) (record { marked = refl; first = cc; second = cc })

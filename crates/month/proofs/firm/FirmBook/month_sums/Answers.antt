@@ -1,8 +1,8 @@
 -- The sums are those of the days so far. A counted day is in effect, so its totals are within the limit, and no sum overflows.
-use Rattle.std.proofs.Common.{◌≡◌, ◌+◌, arith}
+use Rattle.std.proofs.Common.{◌+◌, arith}
 use Rattle.rules.specs.Month.{DailyTotals}
 use Rattle.month.specs.Firm.{terms_of, totals_of}
-use Rattle.month.proofs.Exempt.{counted_fits, sums_none, sums_more, sums-within}
+use Rattle.month.proofs.Exempt.{counted_fits, sums_none, sums-within}
 use Rattle.month.proofs.firm.FirmBook.month_sums.Goals as goal
 
 pub with_cell-sums-requires : goal.with_cell-sums-requires
@@ -18,11 +18,3 @@ with_cell-sums-requires c =
 
 pub loop-d-init : goal.loop-d-init
 loop-d-init c = sums_none _ _ _ c.default-sums.result c.default-sums.ensures
-
-pub loop-d-preserved : goal.loop-d-preserved
-loop-d-preserved c = rw (c.with_cell-sums.ensures, c.in_effect.ensures, c.cell_in.ensures, c.loop-d.invariant, sums_more)
-
-pub returns : goal.returns
-returns c =
-    let e : c.loop-d.d ≡ 31 = omega arith in
-    rw e at c.loop-d.invariant
