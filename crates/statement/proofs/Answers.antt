@@ -8,6 +8,7 @@ use lib.Dec.{eqb, ltb}
 use lib.ListN.{length, get_or}
 use borrow.Author.Tests.{ltb-false, lt-ltb, le-ltb}
 use Rattle.std.specs.Prelude.{Ok}
+use Rattle.std.proofs.lemmas.Result.{err_from_is_err_and}
 use Rattle.wire.specs.Lists.{table, over}
 use Rattle.wire.specs.Sums.{bit}
 use Rattle.wire.proofs.Lists.{table_at}
@@ -105,3 +106,6 @@ stated S B C out {m} told w =
     let n = held_need_is S m.layout (firm_totals S B C m.layout) m h.groups h.verdicts h.marks in
     let s = held_shown_is S m.layout (firm_totals S B C m.layout) m h.groups h.verdicts h.marks in
     record { answer = rw e (rw (n, s) at w.answer); output = rw e (rw (n, s) at w.output) }
+
+-- a statement's answer
+pub ruleset telling = (err_from_is_err_and, is-refused)
