@@ -6,6 +6,7 @@ use mathlib.Core.List.{List}
 use mathlib.Core.Path.{◌≡◌, sym, ap, subst, ◌∙◌}
 use lib.ListN.{length}
 use Rattle.std.specs.Prelude.{Ok}
+use Rattle.std.proofs.lemmas.Result.{err_from_is_err_and}
 use Rattle.wire.specs.Choose.{choose}
 use Rattle.wire.proofs.Choose.{here, next, done, chosen}
 use Rattle.refusals.specs.Outcome.{Outcome, refused, good, follow}
@@ -66,3 +67,6 @@ judged-book S B C {l} = go (check_book S (length B))
     go : (x : Outcome Layout) → follow x (λ k. cond (eqb (choose (month_causes S B C k) 0) 0) (good k) (refused (choose (month_causes S B C k) 0) 0)) ≡ good l → x ≡ good l
     go (refused n o) e = absurd (refused-good e)
     go (good k) e = by k (eqb (choose (month_causes S B C k) 0) 0) (choose (month_causes S B C k) 0) e
+
+-- a call that 1 to 8 refuse
+pub ruleset refusing = (err_from_is_err_and, is-refused)

@@ -52,6 +52,7 @@ fn judged_month(firm: &FirmBook) -> Month
 }
 
 // The month of the firm with a code, a slice of any length.
+#[tactic(auto, using(crate::proofs::Answers::refusing))]
 pub fn firm_month(schedule: &[u8], book: &[u64], code: &[u8]) -> Result<Month, Refusal>
     ensures { MonthIs schedule.now book.now code.now result }
 {

@@ -1,18 +1,12 @@
 -- Refusals 1 to 8 are those of the check, and an unlisted firm is 21. A listed firm has one place, which fits a byte; then 22 is asked, and the rest is
 -- its month.
 use Rattle.std.proofs.Common.{sym, ◌∙◌}
-use Rattle.std.proofs.lemmas.Result.{err_from_is_err_and}
 use Rattle.lookup.specs.Lookup.{firm_listed}
 use Rattle.lookup.proofs.Laws.{firm-found, firm_unlisted}
 use Rattle.book.proofs.Checked.{sized}
 use Rattle.month.specs.Parts.{ListedAt}
-use Rattle.month.proofs.Answers.{is-refused, is_21, is_22, held-month}
+use Rattle.month.proofs.Answers.{is_21, is_22, held-month}
 use Rattle.month.proofs.firm_month.Goals as goal
-
-pub returns-in_err-layout : goal.returns-in_err-layout
-returns-in_err-layout c =
-    let p = err_from_is_err_and c.from_residual.result c.from_residual.ensures.1 in
-    rw (p.1, p.2) (record { answer = sym (is-refused _ _ _ (sym c.in_err-layout.ensures)); held = tt })
 
 pub returns-in_default : goal.returns-in_default
 returns-in_default c =
