@@ -14,7 +14,8 @@ use Rattle.records.specs.Fields.{firm_fields, same_code, has_code}
 use Rattle.records.proofs.Parts.{code-letters}
 use Rattle.wire.specs.Bytes.{are_bytes, u32_at}
 use Rattle.wire.specs.Choose.{all}
-use Rattle.wire.proofs.Bools.{and_left, and_right, never}
+use Rattle.std.specs.Cmp.{first_so, second_so}
+use Rattle.wire.proofs.Bools.{never}
 use Rattle.wire.proofs.Bytes.{u32_most}
 use Rattle.wire.proofs.Folds.{fold_kept, fold_kept_of, keep_fold}
 use Rattle.wire.proofs.Choose.{Passed, every}
@@ -43,11 +44,11 @@ module _ (S : List ℕ) (l : Layout) (f g d : ℕ) (R : List ℕ) where
       let x = eqb (firm_place_of S l R) f in
       let y = eqb (group_place_of S l R) g in
       let z = eqb (day R) d in
-      let rest = and_right x (y && z) e in
+      let rest = second_so x (y && z) e in
       record {
-        firm = eqb-true _ _ (and_left x (y && z) e);
-        group = eqb-true _ _ (and_left y z rest);
-        day = eqb-true _ _ (and_right y z rest);
+        firm = eqb-true _ _ (first_so x (y && z) e);
+        group = eqb-true _ _ (first_so y z rest);
+        day = eqb-true _ _ (second_so y z rest);
       }
 
   pub same_at : Same (firm_place_of S l R) (group_place_of S l R) (day R) f g d → is_at S l f g d R ≡ true
@@ -61,8 +62,8 @@ module _ (S : List ℕ) (l : Layout) (f g d : ℕ) (R : List ℕ) where
   lands : (c : Cell) → (is_at S l f g d R && is_taken (taking S l c R)) ≡ true → Lands c
   lands c e =
       record {
-        same = at_same (and_left (is_at S l f g d R) (is_taken (taking S l c R)) e);
-        passed = taken S l R c (and_right (is_at S l f g d R) (is_taken (taking S l c R)) e);
+        same = at_same (first_so (is_at S l f g d R) (is_taken (taking S l c R)) e);
+        passed = taken S l R c (second_so (is_at S l f g d R) (is_taken (taking S l c R)) e);
       }
 
 -- what a record that its cell's causes do not refuse makes of a cell is within the limit, as the cell was: activity by 18, a correction by its bytes
@@ -74,7 +75,7 @@ entered-within c R b q p = go (is_activity R) p.1.0
     small i = le-leb (u32_at R i) limit (omega (arith, u32_most R i b))
 
     go : (k : Bool) → (k && not (fits 1 (grown c (totals_of R)).totals)) ≡ false → is_within (cond k (grown c (totals_of R)) (corrected (correction_fields R))) ≡ true
-    go true e = rw (not-false (fits 1 (grown c (totals_of R)).totals) e, and_right (fits 1 c.totals) (leb c.edition limit) q)
+    go true e = rw (not-false (fits 1 (grown c (totals_of R)).totals) e, second_so (fits 1 c.totals) (leb c.edition limit) q)
     go false e = rw (every (map (λ (i : ℕ). leb (u32_at R i) limit) (16 ∷ 20 ∷ 24 ∷ [])) (small 16, (small 20, (small 24, tt))), small 12)
 
 -- two codes that firm i has are the same

@@ -10,7 +10,8 @@ use lib.ListN.{length, get_or, drop}
 use borrow.Author.Tests.{ltb-true, lt-ltb}
 use Rattle.wire.specs.Choose.{within}
 use Rattle.wire.specs.Lists.{table, over}
-use Rattle.wire.proofs.Bools.{and_left, and_right, range, in_range}
+use Rattle.std.specs.Cmp.{first_so, second_so}
+use Rattle.wire.proofs.Bools.{range, in_range}
 use Rattle.wire.proofs.Folds.{fold_keeps, fold_kept}
 use Rattle.wire.proofs.Lists.{length_over, length-put, drop-put, length-table, table_over, table_behind}
 use Rattle.refusals.specs.Outcome.{Outcome, refused, good, follow, given}
@@ -176,8 +177,8 @@ module _ (S : List ℕ) {l : Layout} (e : check_of S ≡ good l) where
       go : (g d : ℕ) (b : Bool) → (ltb g l.groups && within 1 31 d) ≡ b
           → cond b (cell_at (posted S (open_book S B) rs) (index l.groups f g d)) empty ≡ accepted_cells S rs f g d
       go g d true t =
-          let r = range 1 31 d (and_right (ltb g l.groups) (within 1 31 d) t) in
-          let below = ltb-true _ _ (and_left (ltb g l.groups) (within 1 31 d) t) in
+          let r = range 1 31 d (second_so (ltb g l.groups) (within 1 31 d) t) in
+          let below = ltb-true _ _ (first_so (ltb g l.groups) (within 1 31 d) t) in
           held_cell f g d listed (record { group = below; first = r.least; last = r.most }) B rs h
       go g d false t =
           sym (accepted-none S e rs f g d

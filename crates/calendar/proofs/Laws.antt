@@ -7,7 +7,8 @@ use native.Mathlib.Omega.{arith}
 use lib.Dec.{leb}
 use lib.ListN.{get_or}
 use borrow.Author.Tests.{leb-true}
-use Rattle.wire.proofs.Bools.{and_left, and_right, cond_le}
+use Rattle.std.specs.Cmp.{first_so, second_so}
+use Rattle.wire.proofs.Bools.{cond_le}
 use Rattle.calendar.specs.Calendar.{month_days, is_leap_february, days_in}
 
 -- no number of a list is above b, by a test that computes
@@ -17,8 +18,8 @@ up_to b (x ∷ xs) = leb x b && up_to b xs
 
 at_most : (b : ℕ) (xs : List ℕ) → up_to b xs ≡ true → (i : ℕ) → get_or xs i 0 ≤ b
 at_most b [] e i = zero-le
-at_most b (x ∷ xs) e zero = leb-true x b (and_left (leb x b) (up_to b xs) e)
-at_most b (x ∷ xs) e (suc i) = at_most b xs (and_right (leb x b) (up_to b xs) e) i
+at_most b (x ∷ xs) e zero = leb-true x b (first_so (leb x b) (up_to b xs) e)
+at_most b (x ∷ xs) e (suc i) = at_most b xs (second_so (leb x b) (up_to b xs) e) i
 
 pub days_most : (m : ℕ) → days_in m ≤ 31
 unfolding days_in

@@ -7,7 +7,8 @@ use native.Mathlib.Omega.{arith}
 use lib.Dec.{leb, ltb}
 use borrow.Author.Tests.{leb-true, ltb-true}
 use Rattle.wire.specs.Choose.{within}
-use Rattle.wire.proofs.Bools.{and_left, and_right, range}
+use Rattle.std.specs.Cmp.{first_so, second_so}
+use Rattle.wire.proofs.Bools.{range}
 use Rattle.wire.proofs.Sums.{count-all}
 use Rattle.rules.specs.Lighter.{Lighter}
 use Rattle.rules.specs.declared.Totals.{Totals}
@@ -18,11 +19,11 @@ use Rattle.guarantee.specs.Example.{is_lighter, is_kept, days_where, Applies, ex
 
 lighter_by : (t' t : Totals) → is_lighter t' t ≡ true → Lighter t' t
 lighter_by t' t e =
-    let rest = and_right (leb t'.raw t.raw) _ e in
+    let rest = second_so (leb t'.raw t.raw) _ e in
     record {
-      raw = leb-true _ _ (and_left (leb t'.raw t.raw) _ e);
-      score = leb-true _ _ (and_left (leb t'.score t.score) _ rest);
-      lots = leb-true _ _ (and_right (leb t'.score t.score) _ rest);
+      raw = leb-true _ _ (first_so (leb t'.raw t.raw) _ e);
+      score = leb-true _ _ (first_so (leb t'.score t.score) _ rest);
+      lots = leb-true _ _ (second_so (leb t'.score t.score) _ rest);
     }
 
 kept_by : (t' t : Totals) → is_kept t' t ≡ true → 0 < t.raw → 0 < t'.raw
@@ -37,7 +38,7 @@ module _ (S C : List ℕ) (first second : List (List ℕ)) (one : (layout S).gro
   on_each : (is_so : (t' t : Totals) → Bool) → days_where is_so S C first second ≡ 31 → (g day : ℕ) → g < (layout S).groups
       → in_effect (layout S).month (layout S).closed day ≡ true → is_so (totals_after S C second g day) (totals_after S C first g day) ≡ true
   on_each is_so e g day h on =
-      let r = range 1 (days_in (layout S).month) day (and_left (within 1 (days_in (layout S).month) day) _ on) in
+      let r = range 1 (days_in (layout S).month) day (first_so (within 1 (days_in (layout S).month) day) _ on) in
       let m = days_most (layout S).month in
       let z : g ≡ 0 = omega arith in
       let d : day - 1 + 1 ≡ day = omega arith in

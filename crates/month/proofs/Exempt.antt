@@ -10,7 +10,8 @@ use lib.Dec.{ltb, lit≤}
 use borrow.Author.Tests.{ltb-true, le-leb, le-ltb, not-false}
 use Rattle.wire.specs.Choose.{within}
 use Rattle.wire.specs.Sums.{sum, count}
-use Rattle.wire.proofs.Bools.{and_left, and_right, cond_le, cond_where, range}
+use Rattle.std.specs.Cmp.{first_so, second_so}
+use Rattle.wire.proofs.Bools.{cond_le, cond_where, range}
 use Rattle.wire.proofs.Choose.{every, none_at}
 use Rattle.wire.proofs.Sums.{sum_more, sum_le, sum_most, sum-cost}
 use Rattle.rules.specs.Verdict.{version96, not_judged, is_violation, limit, fits, is_benchmark, days_verdict, days_meaning}
@@ -47,26 +48,26 @@ module _ (S : List ℕ) {l : Layout} (c : FirmCells) (ok : Sound S l c) (g day :
   pub cell_fits : fits 1 (c g day).totals ≡ true
   unfolding any_excess
   cell_fits =
-      let r = range 1 (days_in l.month) day (and_left (within 1 (days_in l.month) day) _ on) in
+      let r = range 1 (days_in l.month) day (first_so (within 1 (days_in l.month) day) _ on) in
       let m = days_most l.month in
       let i : ℕ = (day - 1) * 32 + g in
       let p : i % 32 ≡ g = omega arith in
       let q : i / 32 + 1 ≡ day = omega arith in
       let z = none_at places (is_excess l c) ok.within i (omega arith) in
-      and_left (fits 1 (c g day).totals) _ (not-false (is_within (c g day)) (simp (p, q, le-leb _ _ r.most) at z))
+      first_so (fits 1 (c g day).totals) _ (not-false (is_within (c g day)) (simp (p, q, le-leb _ _ r.most) at z))
 
 -- so on a counted day the totals are within the limit
 pub counted_fits : (S : List ℕ) {l : Layout} (B : List ℕ) (f : ℕ) → Sound S l (cells l.groups B f) → (g : ℕ) → g < 32 → (day : ℕ)
     → counted (terms S l) (totals_in l.groups B f) g day ≡ true → fits 1 (totals_in l.groups B f g day) ≡ true
-counted_fits S {l} B f ok g h day e = cell_fits S (cells l.groups B f) ok g day h (and_left (in_effect l.month l.closed day) _ e)
+counted_fits S {l} B f ok g h day e = cell_fits S (cells l.groups B f) ok g day h (first_so (in_effect l.month l.closed day) _ e)
 
 -- so there is a verdict on a cell of a listed group, on a day in effect, and it is the place's
 pub verdict_place : (S : List ℕ) {l : Layout} (c : FirmCells) → Sound S l c → (i : ℕ)
     → (ltb (group_of i) l.groups && in_effect l.month l.closed (day_of i)) ≡ true
     → verdict_in (days_verdict 1 (cell_totals c (group_of i) (day_of i)) (group_at S l (group_of i)).benchmark) ≡ verdict_at (rules_of S) (terms S l) (cell_totals c) i
 verdict_place S {l} c ok i e =
-    let h = ltb-true (group_of i) l.groups (and_left (ltb (group_of i) l.groups) _ e) in
-    let on = and_right (ltb (group_of i) l.groups) _ e in
+    let h = ltb-true (group_of i) l.groups (first_so (ltb (group_of i) l.groups) _ e) in
+    let on = second_so (ltb (group_of i) l.groups) _ e in
     let b = (group-listed S ok.checked (group_of i) h).benchmark in
     rw e (ap verdict_in (days-decided 1 (cell_totals c (group_of i) (day_of i)) (group_at S l (group_of i)).benchmark (lit≤ tt) (cell_fits S c ok (group_of i) (day_of i) (omega arith) on) b))
 

@@ -12,7 +12,7 @@ use borrow.Author.Tests.{eq-eqb}
 use Rattle.wire.specs.Bytes.{are_bytes, u16_at, u32_at}
 use Rattle.wire.specs.Choose.{all}
 use Rattle.wire.specs.Cut.{cut}
-use Rattle.wire.proofs.Bools.{and_right}
+use Rattle.std.specs.Cmp.{second_so}
 use Rattle.wire.proofs.Cut.{cut-bytes}
 use Rattle.accepted.specs.Accepted.{of_bytes}
 use Rattle.input.specs.Input.{begins_activity, records_from, activity_of}
@@ -56,7 +56,7 @@ module _ (C L : List ℕ) (n : ℕ) where
 from_bytes : (rs : List (List ℕ)) → of_bytes rs ≡ true → of_bytes (records_from rs) ≡ true
 unfolding records_from of_bytes all
 from_bytes [] e = e
-from_bytes (R ∷ rs) e = go (begins_activity R) (from_bytes rs (and_right (are_bytes R) (of_bytes rs) e))
+from_bytes (R ∷ rs) e = go (begins_activity R) (from_bytes rs (second_so (are_bytes R) (of_bytes rs) e))
   where
     go : (b : Bool) → of_bytes (records_from rs) ≡ true → of_bytes (cond b (R ∷ rs) (records_from rs)) ≡ true
     go true h = e

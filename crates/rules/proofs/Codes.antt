@@ -9,7 +9,8 @@ use native.Mathlib.Omega.{arith}
 use lib.Dec.{leb, ltb}
 use borrow.Author.Tests.{not-false, leb-true, le-ltb}
 use Rattle.wire.specs.Choose.{choose}
-use Rattle.wire.proofs.Bools.{and_left, and_right, cond_le, ltb-leb, range}
+use Rattle.std.specs.Cmp.{first_so, second_so}
+use Rattle.wire.proofs.Bools.{cond_le, ltb-leb, range}
 use Rattle.wire.proofs.Choose.{chosen, next, done, each}
 use Rattle.wire.proofs.Implies.{◌⇒◌, not-⇒, and-⇒, leb-⇒, cond_rises}
 use Rattle.rules.specs.Verdict.{version96, not_judged, Falling, tier_factor, exceeds, verdict, is_violation, is_severe, limit, fits, is_benchmark, is_refused, decided, days_verdict, number_of}
@@ -121,8 +122,8 @@ lawful96 = omega arith
 pub bounded : (d : ℕ) (t : Totals) (B : ℕ) → d ≤ 31 → is_refused d t B ≡ false → Bounded version96 B d t
 bounded d t B h e =
     let both = not-false (fits d t && is_benchmark B) e in
-    let f = fitting d t (and_left (fits d t) (is_benchmark B) both) in
-    let b = range 1 100000 B (and_right (fits d t) (is_benchmark B) both) in
+    let f = fitting d t (first_so (fits d t) (is_benchmark B) both) in
+    let b = range 1 100000 B (second_so (fits d t) (is_benchmark B) both) in
     record { lawful = lawful96; benchmark = b.most; days = h; score = omega (arith, f.score); lots = omega (arith, f.lots) }
 
 -- the totals t' of d' days against t of d: t' keeps to whatever raw edge of a day t kept to

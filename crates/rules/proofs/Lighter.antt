@@ -8,7 +8,8 @@ use native.Mathlib.Omega.{arith}
 use lib.Dec.{ltb, eqb}
 use borrow.Author.Tests.{ltb-true, ltb-false, lt-ltb, le-ltb}
 use Rattle.wire.specs.Sums.{bit}
-use Rattle.wire.proofs.Bools.{and_left, and_right, cond_where}
+use Rattle.std.specs.Cmp.{first_so, second_so}
+use Rattle.wire.proofs.Bools.{cond_where}
 use Rattle.wire.proofs.Implies.{◌⇒◌, not-⇒, and-⇒, leb-⇒}
 use Rattle.wire.proofs.Sums.{sum_le}
 use Rattle.rules.specs.Verdict.{not_judged, Falling, is_violation, is_severe}
@@ -29,7 +30,7 @@ eased h = record { edges = λ e. leb-⇒ h.raw (le_refl _); score = h.score; lot
 over_le : (s : Terms) (g : ℕ) (c₁ c₂ : DailyTotals) → ((k : ℕ) → counted s c₁ g k ≡ counted s c₂ g k)
     → (f : Totals → ℕ) → ((k : ℕ) → s.in_effect k ≡ true → f (c₁ g k) ≤ f (c₂ g k)) → over_counted s c₁ 31 g f ≤ over_counted s c₂ 31 g f
 over_le s g c₁ c₂ same f h =
-    sum_le 31 _ _ (λ i l. rw (same (i + 1)) (cond_where (counted s c₂ g (i + 1)) (λ q. h (i + 1) (and_left (s.in_effect (i + 1)) _ q))))
+    sum_le 31 _ _ (λ i l. rw (same (i + 1)) (cond_where (counted s c₂ g (i + 1)) (λ q. h (i + 1) (first_so (s.in_effect (i + 1)) _ q))))
 
 module _ (s : Terms) (c' c : DailyTotals) (h : LighterMonth s c' c) (g : ℕ) (hg : g < s.groups) where
   pub same_days : (k : ℕ) → counted s c' g k ≡ counted s c g k
@@ -87,8 +88,8 @@ module _ (P : Rules) (F : Falling P) (s : Terms) (c' c : DailyTotals) (h : Light
   amount_lighter e =
       amount_falls P e (judged P s c') (judged P s c)
       (λ i. placed (eqb (s.grouping (group_of i)) e) (ltb (group_of i) s.groups && s.in_effect (day_of i)) _ _ _ _
-      (λ q. let hg = ltb-true _ _ (and_left (ltb (group_of i) s.groups) _ q) in
-      let l = h.lighter (group_of i) (day_of i) hg (and_right (ltb (group_of i) s.groups) _ q) in
+      (λ q. let hg = ltb-true _ _ (first_so (ltb (group_of i) s.groups) _ q) in
+      let l = h.lighter (group_of i) (day_of i) hg (second_so (ltb (group_of i) s.groups) _ q) in
       record {
         violation = violation_falls P F (eased l) _;
         severe = severe_falls P F (eased l) _;

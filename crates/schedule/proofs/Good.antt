@@ -11,7 +11,8 @@ use borrow.Author.Count.{below_more}
 use borrow.Author.Tests.{leb-false, leb-true, eqb-true, eqb-false, eq-eqb, not-true}
 use Rattle.std.proofs.lemmas.Slice.Eq.{bytes_eq-Decides}
 use Rattle.wire.specs.Choose.{within}
-use Rattle.wire.proofs.Bools.{and_left, and_right, range, in_range}
+use Rattle.std.specs.Cmp.{first_so, second_so}
+use Rattle.wire.proofs.Bools.{range, in_range}
 use Rattle.wire.proofs.Choose.{here, next, done, chosen, none_at, choose_most, every}
 use Rattle.records.specs.Bodies.{length_at, kind_at, rest_at, body_at, head_size, least_group, largest_group, firm_size}
 use Rattle.records.specs.Fields.{head_fields, head_ok, group_fields, group_in_range, firm_fields, has_code}
@@ -159,8 +160,8 @@ module _ (S : List ℕ) (at : ℕ) (fits : length_at S at ≤ length S - at) (si
   even : (least_group ≤ length_at S at) × (length_at S at ≤ largest_group) × (length_at S at % 2 ≡ 0)
   unfolding length_ok
   even =
-      let r = range least_group largest_group (length_at S at) (and_left (within least_group largest_group (length_at S at)) (eqb (length_at S at % 2) 0) sized) in
-      let e = eqb-true (length_at S at % 2) 0 (and_right (within least_group largest_group (length_at S at)) (eqb (length_at S at % 2) 0) sized) in
+      let r = range least_group largest_group (length_at S at) (first_so (within least_group largest_group (length_at S at)) (eqb (length_at S at % 2) 0) sized) in
+      let e = eqb-true (length_at S at % 2) 0 (second_so (within least_group largest_group (length_at S at)) (eqb (length_at S at % 2) 0) sized) in
       (r.least, r.most, e)
 
   lists : length_at S at ≡ 16 + 2 * listed (body_at S at)
@@ -205,8 +206,8 @@ module _ (S : List ℕ) (p : Cursor) where
         firm_once = λ C i j h. absurd (omega arith);
       }
   sound_after kind.Group number due sized fits fields once l s =
-      let apart = eqb-false p.at 0 (not-true _ (and_left (not (eqb p.at 0)) (eqb p.held.firms 0) due)) in
-      let none = eqb-true p.held.firms 0 (and_right (not (eqb p.at 0)) (eqb p.held.firms 0) due) in
+      let apart = eqb-false p.at 0 (not-true _ (first_so (not (eqb p.at 0)) (eqb p.held.firms 0) due)) in
+      let none = eqb-true p.held.firms 0 (second_so (not (eqb p.at 0)) (eqb p.held.firms 0) due) in
       let pos : 0 < p.at = omega (arith, apart) in
       let stands : p.at ≡ group_start S p.held.first p.held.groups = omega (arith, s.starts pos, s.place pos) in
       let on : p.at + length_at S p.at ≡ group_start S p.held.first (p.held.groups + 1) = rw (stands, group_next) in
@@ -216,10 +217,10 @@ module _ (S : List ℕ) (p : Cursor) where
         kind = number;
         size = lists S p.at fits sized;
         contracts = lists_few S p.at fits sized;
-        rising = and_right ok (contracts_ok (body_at S p.at)) fields;
+        rising = second_so ok (contracts_ok (body_at S p.at)) fields;
       } in
       let long : 5 < length_at S p.at = omega (arith, even S p.at fits sized) in
-      let fine : ok ≡ true = and_left ok (contracts_ok (body_at S p.at)) fields in
+      let fine : ok ≡ true = first_so ok (contracts_ok (body_at S p.at)) fields in
       record {
         bare = λ q. absurd (omega arith);
         headed = λ h. s.headed pos;

@@ -6,7 +6,8 @@ use native.Mathlib.Omega.{arith}
 use lib.Dec.{eqb}
 use borrow.Author.Tests.{eqb-true}
 use Rattle.wire.specs.Choose.{choose, within}
-use Rattle.wire.proofs.Bools.{and_left, range}
+use Rattle.std.specs.Cmp.{first_so}
+use Rattle.wire.proofs.Bools.{range}
 use Rattle.records.specs.Bodies.{least_group, largest_group, head_size, firm_size}
 use Rattle.schedule.specs.Check.{kind_of, length_ok}
 use Rattle.schedule.specs.declared.scan.Kind.{Kind}
@@ -35,6 +36,6 @@ pub length_bounds : (k : Kind) (len : ℕ) → length_ok k len ≡ true → (fir
 unfolding length_ok
 length_bounds kind.Head len h = omega (arith, eqb-true len head_size h)
 length_bounds kind.Group len h =
-    omega (arith, range least_group largest_group len (and_left (within least_group largest_group len) (eqb (len % 2) 0) h))
+    omega (arith, range least_group largest_group len (first_so (within least_group largest_group len) (eqb (len % 2) 0) h))
 length_bounds kind.Firm len h = omega (arith, eqb-true len firm_size h)
 length_bounds kind.Other len h = absurd (false≢true h)

@@ -5,15 +5,8 @@ use mathlib.Core.Path.{◌≡◌, refl, sym, ◌∙◌}
 use native.Mathlib.Nat.{le_refl}
 use lib.Dec.{leb, ltb}
 use borrow.Author.Tests.{not-true, leb-true, leb-false, le-leb, le-ltb, lt-ltb}
+use Rattle.std.specs.Cmp.{first_so, second_so}
 use Rattle.wire.specs.Choose.{within}
-
-pub and_left : (a b : Bool) → (a && b) ≡ true → a ≡ true
-and_left true b e = refl
-and_left false b e = e
-
-pub and_right : (a b : Bool) → (a && b) ≡ true → b ≡ true
-and_right true b e = e
-and_right false b e = absurd (false≢true e)
 
 -- a test that cannot hold fails
 pub never : (b : Bool) → (b ≡ true → ⊥) → b ≡ false
@@ -59,7 +52,7 @@ pub record Range (lo hi x : ℕ) : Type 0 where
   pub most : x ≤ hi
 
 pub range : (lo hi x : ℕ) → within lo hi x ≡ true → Range lo hi x
-range lo hi x e = record { least = leb-true lo x (and_left (leb lo x) (leb x hi) e); most = leb-true x hi (and_right (leb lo x) (leb x hi) e) }
+range lo hi x e = record { least = leb-true lo x (first_so (leb lo x) (leb x hi) e); most = leb-true x hi (second_so (leb lo x) (leb x hi) e) }
 
 pub in_range : (lo hi x : ℕ) → lo ≤ x → x ≤ hi → within lo hi x ≡ true
 in_range lo hi x l h = rw (le-leb lo x l, le-leb x hi h)

@@ -10,27 +10,27 @@ use lib.ListN.{get_or, take, drop}
 use borrow.Author.Tests.{ltb-true}
 use Rattle.wire.specs.Bytes.{are_bytes, u16_at, u32_at, u16_bytes, u32_bytes}
 use Rattle.wire.specs.Choose.{all}
-use Rattle.wire.proofs.Bools.{and_left, and_right}
+use Rattle.std.specs.Cmp.{first_so, second_so}
 
 -- parts of a list of bytes are of bytes
 pub bytes_take : (n : ℕ) (S : List ℕ) → are_bytes S ≡ true → are_bytes (take n S) ≡ true
 unfolding are_bytes all
 bytes_take zero S e = refl
 bytes_take (suc n) [] e = refl
-bytes_take (suc n) (b ∷ bs) e = rw (and_left (ltb b 256) (are_bytes bs) e) (bytes_take n bs (and_right (ltb b 256) (are_bytes bs) e))
+bytes_take (suc n) (b ∷ bs) e = rw (first_so (ltb b 256) (are_bytes bs) e) (bytes_take n bs (second_so (ltb b 256) (are_bytes bs) e))
 
 pub bytes_drop : (n : ℕ) (S : List ℕ) → are_bytes S ≡ true → are_bytes (drop n S) ≡ true
 unfolding are_bytes all
 bytes_drop zero S e = e
 bytes_drop (suc n) [] e = refl
-bytes_drop (suc n) (b ∷ bs) e = bytes_drop n bs (and_right (ltb b 256) (are_bytes bs) e)
+bytes_drop (suc n) (b ∷ bs) e = bytes_drop n bs (second_so (ltb b 256) (are_bytes bs) e)
 
 -- a byte is below 256, so that a number of four of them is below 2^32
 byte_most : (S : List ℕ) → are_bytes S ≡ true → (i : ℕ) → get_or S i 0 ≤ 255
 unfolding are_bytes all
 byte_most [] e i = lit≤ tt
-byte_most (b ∷ bs) e zero = omega (arith, ltb-true b 256 (and_left (ltb b 256) (are_bytes bs) e))
-byte_most (b ∷ bs) e (suc i) = byte_most bs (and_right (ltb b 256) (are_bytes bs) e) i
+byte_most (b ∷ bs) e zero = omega (arith, ltb-true b 256 (first_so (ltb b 256) (are_bytes bs) e))
+byte_most (b ∷ bs) e (suc i) = byte_most bs (second_so (ltb b 256) (are_bytes bs) e) i
 
 pub u32_most : (S : List ℕ) (i : ℕ) → are_bytes S ≡ true → u32_at S i ≤ 4294967295
 unfolding u32_at u16_at

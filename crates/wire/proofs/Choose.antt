@@ -8,7 +8,8 @@ use native.Mathlib.Omega.{arith}
 use lib.Dec.{leb, eqb}
 use borrow.Author.Tests.{leb-true, eq-eqb, eqb-true, eqb-false, ltb-true, ltb-false}
 use Rattle.wire.specs.Choose.{choose, all, seek_in, seek, some}
-use Rattle.wire.proofs.Bools.{and_left, and_right, never}
+use Rattle.std.specs.Cmp.{first_so, second_so}
+use Rattle.wire.proofs.Bools.{never}
 
 -- how a choice was made: from the top, tests that fail are passed, and one that holds decides
 pub data Chosen {A : Type 0} : List (Bool × A) → A → A → Type 0 where
@@ -34,8 +35,8 @@ numbered (c ∷ cs) = not (eqb c.1 0) && numbered cs
 pub passed : (cs : List (Bool × ℕ)) → numbered cs ≡ true → choose cs 0 ≡ 0 → Passed cs
 unfolding choose
 passed [] t e = tt
-passed ((true, n) ∷ cs) t e = absurd (false≢true (ap not (sym (eq-eqb n 0 e)) ∙ and_left (not (eqb n 0)) (numbered cs) t))
-passed ((false, n) ∷ cs) t e = (refl, passed cs (and_right (not (eqb n 0)) (numbered cs) t) e)
+passed ((true, n) ∷ cs) t e = absurd (false≢true (ap not (sym (eq-eqb n 0 e)) ∙ first_so (not (eqb n 0)) (numbered cs) t))
+passed ((false, n) ∷ cs) t e = (refl, passed cs (second_so (not (eqb n 0)) (numbered cs) t) e)
 
 -- of one table after another the first decides where it comes to a number, and the second where it comes to 0
 pub choose_first : (cs ds : List (Bool × ℕ)) {n : ℕ} → choose cs 0 ≡ n → (n ≡ 0 → ⊥) → choose (cs ++ ds) 0 ≡ n
@@ -68,8 +69,8 @@ small size m (c ∷ cs) = leb (size c.1) m && small size m cs
 pub choose_most : {A : Type 0} (size : A → ℕ) (m : ℕ) (cs : List (Bool × A)) {d : A} → small size m cs ≡ true → size d ≤ m → size (choose cs d) ≤ m
 unfolding choose
 choose_most size m [] t h = h
-choose_most size m ((true, a) ∷ cs) t h = leb-true (size a) m (and_left (leb (size a) m) (small size m cs) t)
-choose_most size m ((false, a) ∷ cs) t h = choose_most size m cs (and_right (leb (size a) m) (small size m cs) t) h
+choose_most size m ((true, a) ∷ cs) t h = leb-true (size a) m (first_so (leb (size a) m) (small size m cs) t)
+choose_most size m ((false, a) ∷ cs) t h = choose_most size m cs (second_so (leb (size a) m) (small size m cs) t) h
 
 -- every test of a list holds just where each does
 abbrev pub Every : List Bool → Type 0
@@ -79,7 +80,7 @@ Every (b ∷ bs) = (b ≡ true) × Every bs
 pub each : (bs : List Bool) → all bs ≡ true → Every bs
 unfolding all
 each [] e = tt
-each (b ∷ bs) e = (and_left b (all bs) e, each bs (and_right b (all bs) e))
+each (b ∷ bs) e = (first_so b (all bs) e, each bs (second_so b (all bs) e))
 
 pub every : (bs : List Bool) → Every bs → all bs ≡ true
 unfolding all

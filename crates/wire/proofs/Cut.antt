@@ -11,7 +11,7 @@ use borrow.Author.Tests.{eqb-false, ne_eqb, le-leb, lt-leb, leb-true}
 use Rattle.wire.specs.Bytes.{are_bytes, u16_at}
 use Rattle.wire.specs.Choose.{all, within}
 use Rattle.wire.specs.Cut.{first_length, cut_in, cut}
-use Rattle.wire.proofs.Bools.{and_left, and_right}
+use Rattle.std.specs.Cmp.{first_so, second_so}
 use Rattle.wire.proofs.Bytes.{bytes_take, bytes_drop}
 
 module _ (S : List ℕ) where
@@ -41,8 +41,8 @@ module _ (S : List ℕ) where
     where
       go : (b : Bool) → within 4 (length S) (u16_at S 0) ≡ b → FirstIn
       go true e =
-          let h = leb-true 4 (u16_at S 0) (and_left (leb 4 (u16_at S 0)) (leb (u16_at S 0) (length S)) e) in
-          let k = leb-true (u16_at S 0) (length S) (and_right (leb 4 (u16_at S 0)) (leb (u16_at S 0) (length S)) e) in
+          let h = leb-true 4 (u16_at S 0) (first_so (leb 4 (u16_at S 0)) (leb (u16_at S 0) (length S)) e) in
+          let k = leb-true (u16_at S 0) (length S) (second_so (leb 4 (u16_at S 0)) (leb (u16_at S 0) (length S)) e) in
           record { some = λ l. rw e (omega (arith, h)); most = rw e k }
       go false e = record { some = λ l. rw e l; most = rw e (le_refl _) }
 

@@ -4,7 +4,7 @@ use mathlib.Core.List.{List, [], ◌∷◌, foldl, map}
 use mathlib.Core.Path.{◌≡◌, refl}
 use Rattle.wire.specs.Choose.{all}
 use Rattle.wire.specs.Lists.{keep}
-use Rattle.wire.proofs.Bools.{and_left, and_right}
+use Rattle.std.specs.Cmp.{first_so, second_so}
 
 -- two walks of one list keep what each step keeps
 pub fold_keeps : {A B R : Type 0} (I : A → B → Type 0) (p : A → R → A) (q : B → R → B)
@@ -23,7 +23,7 @@ pub fold_kept_of : {A R : Type 0} (P : A → Type 0) (q : R → Bool) (p : A →
     → (a : A) (rs : List R) → all (map q rs) ≡ true → P a → P (foldl p a rs)
 unfolding all
 fold_kept_of P q p h a [] e i = i
-fold_kept_of P q p h a (r ∷ rs) e i = fold_kept_of P q p h (p a r) rs (and_right (q r) (all (map q rs)) e) (h a r (and_left (q r) (all (map q rs)) e) i)
+fold_kept_of P q p h a (r ∷ rs) e i = fold_kept_of P q p h (p a r) rs (second_so (q r) (all (map q rs)) e) (h a r (first_so (q r) (all (map q rs)) e) i)
 
 -- what a step passes over may be left out
 pub keep_fold : {A R : Type 0} (p : R → Bool) (q : A → R → A) → ((a : A) (r : R) → p r ≡ false → q a r ≡ a)
