@@ -6,20 +6,18 @@ use mathlib.Core.List.{List, ◌++◌}
 use mathlib.Core.Path.{◌≡◌, refl, sym}
 use native.Mathlib.Nat.{le_refl}
 use native.Mathlib.Omega.{arith}
-use lib.Dec.{eqb}
 use lib.ListN.{length, drop, length-replicate}
-use borrow.Author.Tests.{eq-eqb, le-ltb}
+use borrow.Author.Tests.{le-ltb}
 use Rattle.wire.specs.Lists.{joined}
-use Rattle.wire.proofs.Choose.{every, some_at}
+use Rattle.wire.proofs.Choose.{some_at}
 use Rattle.wire.proofs.Sums.{count_most}
 use Rattle.rules.specs.Verdict.{is_violation}
 use Rattle.rules.specs.Marks.{places, Judged, violations}
 use Rattle.rules.specs.declared.Rules.{Rules}
-use Rattle.records.specs.Bodies.{rest_at}
 use Rattle.std.proofs.lemmas.Slice.Eq.{bytes_eq-Decides}
-use Rattle.records.specs.Fields.{firm_fields, has_code}
+use Rattle.records.specs.Fields.{has_code}
 use Rattle.refusals.specs.Outcome.{refused, good}
-use Rattle.lookup.specs.Lookup.{firm_start, firm_is, firm_listed}
+use Rattle.lookup.specs.Lookup.{firm_is, firm_listed}
 use Rattle.lookup.specs.InForce.{rules_of}
 use Rattle.lookup.specs.declared.Layout.{Layout}
 use Rattle.schedule.proofs.Good.{refused-good}
