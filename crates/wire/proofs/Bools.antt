@@ -47,12 +47,12 @@ pub no : {r t : Bool} → r ≡ t → not r ≡ true → t ≡ false
 no {r} e f = sym e ∙ not-true r f
 
 -- a number within a range, and the range of a number
+pub in_range : (lo hi x : ℕ) → lo ≤ x → x ≤ hi → within lo hi x ≡ true
+in_range lo hi x l h = rw (le-leb lo x l, le-leb x hi h)
+
 pub record Range (lo hi x : ℕ) : Type 0 where
   pub least : lo ≤ x
   pub most : x ≤ hi
 
 pub range : (lo hi x : ℕ) → within lo hi x ≡ true → Range lo hi x
 range lo hi x e = record { least = leb-true lo x (first_so (leb lo x) (leb x hi) e); most = leb-true x hi (second_so (leb lo x) (leb x hi) e) }
-
-pub in_range : (lo hi x : ℕ) → lo ≤ x → x ≤ hi → within lo hi x ≡ true
-in_range lo hi x l h = rw (le-leb lo x l, le-leb x hi h)

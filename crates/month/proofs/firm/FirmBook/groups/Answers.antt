@@ -1,6 +1,6 @@
 -- Each group's month is made at its place.
 use Rattle.std.proofs.Common.{rules}
-use Rattle.month.proofs.Calls.{made}
+use Rattle.wire.proofs.Calls.{made}
 use Rattle.month.proofs.firm.FirmBook.groups.Goals as goal
 
 pub returns : goal.returns

@@ -1,6 +1,6 @@
 -- Each place's verdict is written at its place.
 use Rattle.std.proofs.Common.{rules}
-use Rattle.month.proofs.Calls.{made}
+use Rattle.wire.proofs.Calls.{made}
 use Rattle.month.proofs.firm.FirmBook.verdicts.Goals as goal
 
 pub returns : goal.returns
