@@ -46,17 +46,6 @@ found_at n p t e =
     let inside = ltb-true (seek 0 n p) n t in
     rw (← e) (record { listed = t; first = refl; inside = inside; holds = (sought n p).found (omega arith) })
 
--- the library's answer to a search of a range is the first place, where there is one
-pub first_found : (n : ℕ) (p : ℕ → Bool) (r : Option ℕ)
-    → MatchOption r ((k : ℕ) → 0 ≤ k → k < n → p k ≡ false)
-    (λ i. (0 ≤ i) × (i < n) × (p i ≡ true) × ((k : ℕ) → 0 ≤ k → k < i → p k ≡ false))
-    → r ≡ cond (some n p) (Some (seek 0 n p)) None
-first_found n p None h = rw (none_some n p (λ k l. h k (omega arith) l))
-first_found n p (Some i) h =
-    let s = sought n p in
-    let here : seek 0 n p ≡ i = grind (arith, s.found, s.missed i, h.3 (seek 0 n p)) in
-    rw (here, lt-ltb i n h.1)
-
 module _ (S : List ℕ) (l : Layout) (C : List ℕ) where
   pub firm-found : {i : ℕ} → Some i ≡ firm_found S l C → FoundAt l.firms (firm_is S l.start C) i
   unfolding firm_found firm_listed

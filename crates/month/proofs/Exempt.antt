@@ -136,17 +136,3 @@ module _ (s : Terms) (c : DailyTotals) (g : ℕ) where
         let B = s.benchmark g in
         let is = days-decided (days s c g) (sums s c g) B (days_under 31) sums_fit b in
         exempt_code version96 B (days s c g) (sums s c g) ∙ ap (λ j. not (is_violation (verdict_in j).code)) (sym is)
-
-  -- a month without messages is exempt
-  pub exempt_none : ((day : ℕ) → (c g day).raw ≤ 0) → exempt version96 s c g ≡ true
-  exempt_none h =
-      let z = sum_most 31 0 (λ i. cond (counted s c g (i + 1)) (c g (i + 1)).raw 0) (λ i _. cond_le (counted s c g (i + 1)) (h (i + 1)) (le_refl 0)) in
-      rw (le-leb (sums s c g).raw (20000 * days s c g) (le_trans z zero-le))
-
--- past the last group the cells are empty
-past_empty : (G : ℕ) (B : List ℕ) (f g day : ℕ) → G ≤ g → cells G B f g day ≡ empty
-past_empty G B f g day h = rw (cells, le-ltb g G h)
-
--- so there are no messages there
-pub exempt_past : (S : List ℕ) (l : Layout) (B : List ℕ) (f g : ℕ) → l.groups ≤ g → exempt (rules_of S) (terms S l) (totals_in l.groups B f) g ≡ true
-exempt_past S l B f g h = exempt_none (terms S l) (totals_in l.groups B f) g (λ day. omega (arith, ap (λ (c : Cell). c.totals.raw) (past_empty l.groups B f g day h)))

@@ -6,9 +6,11 @@ use mathlib.Core.Path.{◌≡◌, refl, sym, ◌∙◌, ap}
 use native.Mathlib.Numerals.{add-one}
 use native.Mathlib.Omega.{arith}
 use lib.Dec.{leb, eqb}
-use borrow.Author.Tests.{leb-true, eq-eqb, eqb-true, eqb-false, ltb-true, ltb-false}
+use borrow.Author.Tests.{leb-true, eq-eqb, eqb-true, eqb-false, ltb-true, ltb-false, lt-ltb}
 use Rattle.wire.specs.Choose.{choose, all, seek_in, seek, some}
+use Rattle.std.specs.Prelude.{Option, Some, None}
 use Rattle.std.specs.Cmp.{first_so, second_so}
+use Rattle.std.proofs.Common.{MatchOption}
 use Rattle.wire.proofs.Bools.{never}
 
 -- how a choice was made: from the top, tests that fail are passed, and one that holds decides
@@ -152,3 +154,14 @@ none_some n p h =
     never (some n p) (λ t.
     let inside = ltb-true (seek 0 n p) n t in
     false≢true (sym (h (seek 0 n p) inside) ∙ (sought n p).found (omega arith)))
+
+-- the library's answer to a search of a range is the first place, where there is one
+pub first_found : (n : ℕ) (p : ℕ → Bool) (r : Option ℕ)
+    → MatchOption r ((k : ℕ) → 0 ≤ k → k < n → p k ≡ false)
+    (λ i. (0 ≤ i) × (i < n) × (p i ≡ true) × ((k : ℕ) → 0 ≤ k → k < i → p k ≡ false))
+    → r ≡ cond (some n p) (Some (seek 0 n p)) None
+first_found n p None h = rw (none_some n p (λ k l. h k (omega arith) l))
+first_found n p (Some i) h =
+    let s = sought n p in
+    let here : seek 0 n p ≡ i = grind (arith, s.found, s.missed i, h.3 (seek 0 n p)) in
+    rw (here, lt-ltb i n h.1)

@@ -37,10 +37,6 @@ module _ {A : Type 0} where
   pub put_over : (ws vs xs : List A) (at : ℕ) → at ≡ length ws → put at vs (over ws xs) ≡ over (ws ++ vs) xs
   put_over ws vs xs at e = rw e (simp (take-append_seam, drop-append-add, drop-drop, length-append, append_assoc))
 
-  -- so does what is written next after it, by a call or by a store
-  pub put_next : (ws vs xs : List A) {ys zs : List A} (at : ℕ) → ys ≡ over ws xs → at ≡ length ws → zs ≡ put at vs ys → zs ≡ over (ws ++ vs) xs
-  put_next ws vs xs at e h p = p ∙ ap (put at vs) e ∙ put_over ws vs xs at h
-
   pub length-put : (at : ℕ) (vs xs : List A) → at + length vs ≤ length xs → length (put at vs xs) ≡ length xs
   length-put at vs xs h = simp (length-append, length-take, length-drop) (omega arith)
 
@@ -159,9 +155,6 @@ module _ {A : Type 0} where
     pub over_write : (v : A) → length ws < length xs → set (over ws xs) (length ws) v ≡ over (ws ++ v ∷ []) xs
     over_write v h =
         rw (drop-cons xs (length ws) v, set-append_seam, append_assoc, length-append, add-one)
-
-  pub set_next : (ws xs : List A) {ys : List A} (at : ℕ) (v : A) → ys ≡ over ws xs → at ≡ length ws → at < length xs → set ys at v ≡ over (ws ++ v ∷ []) xs
-  set_next ws xs at v e h k = rw (e, h) (over_write ws xs v (rw h at k))
 
   -- an array that is filled from the front, one store a turn
   module _ (f : ℕ → A) where

@@ -1,6 +1,6 @@
 -- Laws of sums and counts.
 use Prim.Native.Nat.{ℕ, zero, suc, ◌+◌, ◌*◌, ◌%◌, ◌≤◌, ◌<◌, min, zero-le}
-use mathlib.Core.Bool.{Bool, true, false, cond, ◌&&◌}
+use mathlib.Core.Bool.{Bool, true, false, cond}
 use mathlib.Core.Logic.{⊎_elim}
 use mathlib.Core.Path.{◌≡◌, refl, ap₂}
 use native.Mathlib.Nat.{le_refl, eq-or-lt_of_le, add-le-add, add-zero, add-suc, mul-add, suc-mul}
@@ -37,10 +37,6 @@ pub sum_most : (n b : ℕ) (f : ℕ → ℕ) → ((i : ℕ) → i < n → f i �
 unfolding sum
 sum_most zero b f h = zero-le
 sum_most (suc n) b f h = rw suc-mul (add-le-add (sum_most n b f (λ i l. h i (omega arith))) (h n (le_refl _)))
-
-pub bit_in : (a b : Bool) → cond a (bit b) 0 ≡ bit (a && b)
-bit_in true b = refl
-bit_in false b = refl
 
 pub bit_most : (b : Bool) → bit b ≤ 1
 bit_most true = omega arith

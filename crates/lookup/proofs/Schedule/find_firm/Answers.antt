@@ -2,7 +2,7 @@
 use Rattle.std.proofs.Common.{◌≡◌, true, false, rules, tests}
 use Rattle.std.proofs.lemmas.Iterator.{first_from_Range}
 use Rattle.lookup.specs.Lookup.{firm_is, firm_listed, firm_found}
-use Rattle.lookup.proofs.Laws.{first_found}
+use Rattle.wire.proofs.Choose.{first_found}
 use Rattle.lookup.proofs.Schedule.find_firm.Goals as goal
 
 pub returns : goal.returns
