@@ -1,13 +1,13 @@
 -- Laws of a firm's month: where 22 does not refuse, no total of a day in effect is above the limit, so no sum over d counted days is above d
 -- times it; there is then a verdict on the month's sums, which says whether the month is exempt.
-use Prim.Native.Nat.{ℕ, ◌+◌, ◌-◌, ◌*◌, ◌/◌, ◌%◌, ◌≤◌, ◌<◌, zero-le}
+use Prim.Native.Nat.{ℕ, ◌+◌, ◌-◌, ◌*◌, ◌/◌, ◌%◌, ◌≤◌, ◌<◌}
 use mathlib.Core.Bool.{Bool, true, false, cond, not, ◌&&◌}
 use mathlib.Core.List.{List}
 use mathlib.Core.Path.{◌≡◌, refl, sym, ap, ◌∙◌}
-use native.Mathlib.Nat.{le_refl, le_trans, add-zero, mul-le-mul_left}
+use native.Mathlib.Nat.{le_trans, add-zero, mul-le-mul_left}
 use native.Mathlib.Omega.{arith}
 use lib.Dec.{ltb, lit≤}
-use borrow.Author.Tests.{ltb-true, le-leb, le-ltb, not-false}
+use borrow.Author.Tests.{ltb-true, le-leb, not-false}
 use Rattle.wire.specs.Choose.{within}
 use Rattle.wire.specs.Sums.{sum, count}
 use Rattle.std.specs.Cmp.{first_so, second_so}
@@ -30,8 +30,7 @@ use Rattle.lookup.specs.declared.Layout.{Layout}
 use Rattle.schedule.proofs.Found.{group-listed}
 use Rattle.calendar.proofs.Laws.{days_most}
 use Rattle.lookup.specs.InForce.{rules_of}
-use Rattle.cell.specs.declared.Cell.{Cell}
-use Rattle.cell.specs.Cell.{is_within, empty, FirmCells, cell_totals}
+use Rattle.cell.specs.Cell.{is_within, FirmCells, cell_totals}
 use Rattle.book.specs.Book.{cells, totals_in}
 use Rattle.month.specs.Month.{terms, is_excess, any_excess}
 use Rattle.month.specs.Parts.{Sound, Within, with_day, sums_to, verdict_in}
