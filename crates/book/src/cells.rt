@@ -52,7 +52,7 @@ pub(crate) fn cell_at(book: &[u64], at: usize) -> Cell
 pub fn cell_in(book: &[u64], groups: u8, firm: u8, group: u8, day: u8) -> Cell
     ensures { result ≡ cells groups book.now firm group day }
 {
-    if !((group < groups) & within(1, 31, u32::from(day))) {
+    if !((group < groups) & (1..=31).contains(&day)) {
         return Cell::default();
     }
     cell_at(book, cell_index(groups, firm, group, day))

@@ -1,17 +1,16 @@
 -- What a search by code tells, and where the groups stand.
-use Prim.Native.Nat.{ℕ, ◌+◌, ◌<◌, ◌≤◌}
+use Prim.Native.Nat.{ℕ, ◌+◌, ◌<◌}
 use mathlib.Core.Bool.{Bool, true, false, cond}
 use mathlib.Core.List.{List}
 use mathlib.Core.Path.{◌≡◌, refl, sym, ap}
 use native.Mathlib.Numerals.{add-one}
 use native.Mathlib.Omega.{arith}
-use borrow.Author.Tests.{ltb-true, lt-ltb}
-use Rattle.std.specs.Prelude.{Option, Some, None, is_some}
-use Rattle.std.proofs.Common.{MatchOption}
+use borrow.Author.Tests.{ltb-true}
+use Rattle.std.specs.Prelude.{Some, None, is_some}
 use Rattle.wire.specs.Bytes.{u16_at}
 use Rattle.wire.specs.Choose.{seek, some}
 use Rattle.wire.proofs.Bools.{cond-true, cond-false}
-use Rattle.wire.proofs.Choose.{sought, none_some}
+use Rattle.wire.proofs.Choose.{sought}
 use Rattle.lookup.specs.Lookup.{group_start, group_found_at, group_place, group_is, group_listed, group_found, firm_is, firm_listed, firm_found}
 use Rattle.lookup.specs.declared.GroupPlace.{GroupPlace}
 use Rattle.lookup.specs.declared.Layout.{Layout}

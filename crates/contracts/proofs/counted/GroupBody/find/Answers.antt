@@ -1,5 +1,5 @@
 -- The library finds the first place of the range at which the test holds, and that is where the definition's search stops.
-use Rattle.std.proofs.Common.{ℕ, ◌≤◌, ◌<◌, ◌≡◌, Bool, true, false, cond, Option, Some, None, MatchOption, arith, rules, tests}
+use Rattle.std.proofs.Common.{◌≡◌, true, false, rules, tests}
 use Rattle.std.proofs.lemmas.Iterator.{first_from_Range}
 use Rattle.wire.proofs.Choose.{first_found}
 use Rattle.contracts.specs.Counted.{contract_is, contract_listed, contract_found}
