@@ -1,13 +1,11 @@
 -- What any found in a range by a closure that each call leaves as it was.
-use Prim.Native.Nat.{ℕ, zero, suc, ◌+◌, ◌<◌}
+use Prim.Native.Nat.{ℕ, ◌<◌}
 use mathlib.Core.Bool.{Bool, true, false}
-use mathlib.Core.List.{List, [], ◌∷◌}
-use mathlib.Core.Path.{◌≡◌, sym, subst, ◌∙◌}
+use mathlib.Core.List.{List}
+use mathlib.Core.Path.{◌≡◌, sym, ◌∙◌}
 use native.Mathlib.Omega.{arith}
 use lib.ListN.{length, get_or}
 use denote.Param.Members.{Mut, Called}
-use Rattle.std.proofs.lemmas.List.{ext_get_or}
-use Rattle.std.specs.Array.{IsFromFnResultFrom, IsFromFnResult}
 use Rattle.std.specs.Prelude.{Option, MatchOption}
 use Rattle.std.specs.declared.ops.Range.{Range}
 use Rattle.std.specs.Bool.{MatchBool}
@@ -16,8 +14,6 @@ use Rattle.std.specs.List.{FoldsTo, range_with_len, AllWithin, HoldsAt}
 use Rattle.std.proofs.iter.Yields.{nat_range_steps}
 use Rattle.std.proofs.lemmas.Iterator.{YieldsList-from_range, cases_from_any}
 use Rattle.std.proofs.lemmas.List.FromFn.{length-range_with_len, get_or-range_with_len}
-use Rattle.wire.specs.Lists.{table}
-use Rattle.wire.proofs.Lists.{joined-none, length-table, table_at}
 use Rattle.wire.specs.Choose.{some}
 use Rattle.wire.proofs.Choose.{some_at, none_some}
 

@@ -60,7 +60,7 @@ pub fn u32_at(s: &[u8], at: usize) -> u32
 pub fn first_len(run: &[u8]) -> usize
     ensures { result ≡ first_length run.now }
 {
-    let len = u16_at(run, 0) as usize;
+    let len = usize::from(u16_at(run, 0));
     if len < 4 {
         run.len()
     } else {
