@@ -95,7 +95,7 @@ def points(commit):
     yield "4 casts", [f"{n}: {line.strip()}" for n, t in src.items() for line in t.split("\n") for _ in re.findall(rf"\bas {NUMBERS}\b", line)]
     yield "4 bare derives", grep(src, r"#\[derive\(Clone, Copy\)\]")
     by_hand = (r"^(bit|kind_of|byte_at|bytes_at|u\d+_at|number_at|number|put_u\d+s?|put|fill|bytes_of|hex_digit|hex_at|put_hex|put_decimal"
-               r"|print_refused|put_refused_at|has_code|say_number|verdict_of|mark_word|put_mark|blank_\w+|is_repeated)$")
+               r"|print_refused|put_refused_at|has_code|say_number|verdict_of|mark_word|put_mark|blank_\w+|item_or)$")
     yield "4 functions that convert, print, fill or compare", [f"{n}: {f}" for n, f, _, _, _ in fns if re.search(by_hand, f)]
     together = collections.defaultdict(list)
     for n, f, params, _, _ in fns:
