@@ -1,4 +1,5 @@
--- What a statement of a firm's month comes to: its answer and output go by 23; and what the arrays of a month show is what the month shows.
+-- What a statement of a firm's month comes to: a refused month refuses it, and what is written lies within the output; and what the arrays of
+-- a month show is what the month shows.
 use Prim.Native.Nat.{ℕ, ◌+◌, ◌*◌, ◌≤◌, ◌<◌}
 use mathlib.Core.Bool.{Bool, true, false, cond, not}
 use mathlib.Core.List.{List}
@@ -6,10 +7,10 @@ use mathlib.Core.Path.{◌≡◌, refl, sym, ap, ◌∙◌}
 use native.Mathlib.Omega.{arith}
 use lib.Dec.{eqb, ltb}
 use lib.ListN.{length, get_or}
-use borrow.Author.Tests.{ltb-false, lt-ltb, le-ltb}
+use borrow.Author.Tests.{ltb-false}
 use Rattle.std.specs.Prelude.{Ok}
 use Rattle.std.proofs.lemmas.Result.{err_from_is_err_and}
-use Rattle.wire.specs.Lists.{table, over}
+use Rattle.wire.specs.Lists.{table}
 use Rattle.wire.specs.Sums.{bit}
 use Rattle.wire.proofs.Lists.{table_at}
 use Rattle.wire.proofs.Sums.{sum_same}
@@ -37,18 +38,6 @@ module _ (S B C out : List ℕ) where
   -- 1 to 8, 21 and 22
   pub is-refused : {n o : ℕ} → month_answer S B C ≡ refused n o → StatementIs S B C out (refused n o) out
   is-refused e = record { answer = rw e; output = rw e }
-
-  module _ {l : Layout} (e : month_answer S B C ≡ good l) where
-    pub is_23 : length out < need (firm_month S B C l) → StatementIs S B C out (refused 23 0) out
-    is_23 h =
-        let t = lt-ltb (length out) (need (firm_month S B C l)) h in
-        record { answer = rw (e, t); output = rw (e, t) }
-
-    pub is_written : need (firm_month S B C l) ≤ length out
-        → StatementIs S B C out (good (length (statement_bytes S l (firm_month S B C l)))) (over (statement_bytes S l (firm_month S B C l)) out)
-    is_written h =
-        let t = le-ltb (length out) (need (firm_month S B C l)) h in
-        record { answer = rw (e, t); output = rw (e, t) }
 
   -- a statement that is written has its two totals, and lies within the output
   pub written_bounds : {n : ℕ} → statement_answer S B C out ≡ good n → (both_totals ≤ n) × (n ≤ length out)
