@@ -1,9 +1,10 @@
 // A script that is read from its front on. Past its end stand zeros.
-ghost use Rattle.std.specs.Prelude.{◌≡◌, ◌≤◌, length, get_or, IsTrue, ◌↔◌};
+ghost use Rattle.std.specs.Prelude.{◌≡◌, ◌+◌, ◌≤◌, length, get_or, IsTrue, ◌↔◌};
 ghost use Rattle.wire.specs.Bytes.{u32_at};
+ghost use Rattle.wire.specs.Lists.{table};
 ghost use Rattle.script.specs.Script.{u64_at, piece_at, bytes_on, piece_on};
 
-use wire::{byte_at, bytes_at, tail, u32_at};
+use wire::{bytes_at, tail};
 
 // The bytes of a script, and the place of the next one to read.
 #[derive(Clone, Copy, Debug)]
@@ -35,24 +36,32 @@ impl<'a> Script<'a> {
         self.at += n.min(self.bytes.len().saturating_sub(self.at));
     }
 
+    // Reads so many bytes.
+    fn array<const N: usize>(&mut self) -> [u8; N]
+        ensures value { result ≡ table N (λ i. get_or self.old.bytes.now (self.old.at + i) 0) }
+        ensures after { self.new ≡ bytes_on self.old N }
+    {
+        let bytes = bytes_at(self.bytes, self.at);
+        self.skip(N);
+        bytes
+    }
+
     // Reads a byte.
+    #[tactic(auto, unfolding(wire::specs::Lists::joined))]
     pub fn byte(&mut self) -> u8
         ensures value { result ≡ get_or self.old.bytes.now self.old.at 0 }
         ensures after { self.new ≡ bytes_on self.old 1 }
     {
-        let n = byte_at(self.bytes, self.at);
-        self.skip(1);
-        n
+        u8::from_le_bytes(self.array())
     }
 
     // Reads a number of four bytes.
+    #[tactic(auto, unfolding(wire::specs::Bytes::u16_at, wire::specs::Bytes::u32_at, wire::specs::Lists::joined))]
     pub fn u32(&mut self) -> u32
         ensures value { result ≡ u32_at self.old.bytes.now self.old.at }
         ensures after { self.new ≡ bytes_on self.old 4 }
     {
-        let n = u32_at(self.bytes, self.at);
-        self.skip(4);
-        n
+        u32::from_le_bytes(self.array())
     }
 
     // Reads a number of eight bytes.
@@ -61,9 +70,7 @@ impl<'a> Script<'a> {
         ensures value { result ≡ u64_at self.old.bytes.now self.old.at }
         ensures after { self.new ≡ bytes_on self.old 8 }
     {
-        let n = u64::from_le_bytes(bytes_at(self.bytes, self.at));
-        self.skip(8);
-        n
+        u64::from_le_bytes(self.array())
     }
 
     // Reads a piece: its size in four bytes, then its own bytes, which the script's end may cut.
