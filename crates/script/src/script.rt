@@ -1,5 +1,5 @@
 // A script that is read from its front on. Past its end stand zeros.
-ghost use Rattle.std.specs.Prelude.{◌≡◌, ◌+◌, ◌≤◌, length, get_or, IsTrue, ◌↔◌};
+ghost use Rattle.std.specs.Prelude.{◌≡◌, ◌+◌, length, get_or, leb};
 ghost use Rattle.wire.specs.Bytes.{u32_at};
 ghost use Rattle.wire.specs.Lists.{table};
 ghost use Rattle.script.specs.Script.{u64_at, piece_at, bytes_on, piece_on};
@@ -24,7 +24,7 @@ impl<'a> Script<'a> {
 
     // No byte is left to read.
     pub fn is_done(&self) -> bool
-        ensures { IsTrue result ↔ (length self.now.bytes.now ≤ self.now.at) }
+        ensures { result ≡ leb (length self.now.bytes.now) self.now.at }
     {
         self.bytes.len() <= self.at
     }
