@@ -25,7 +25,21 @@ module _ (C : List ℕ) where
   totals_front : (T X : List ℕ) → totals_size ≤ length T → totals_line C (T ++ X) ≡ totals_line C T
   unfolding totals_line counts u32_at u16_at
   totals_front T X h =
-      rw (byte 4 (omega arith), byte 6 (omega arith), byte 7 (omega arith), byte 8 (omega arith), byte 9 (omega arith), byte 10 (omega arith), byte 11 (omega arith), byte 12 (omega arith), byte 13 (omega arith), byte 14 (omega arith), byte 15 (omega arith), byte 16 (omega arith), byte 17 (omega arith))
+      rw (
+        byte 4 (omega arith),
+        byte 6 (omega arith),
+        byte 7 (omega arith),
+        byte 8 (omega arith),
+        byte 9 (omega arith),
+        byte 10 (omega arith),
+        byte 11 (omega arith),
+        byte 12 (omega arith),
+        byte 13 (omega arith),
+        byte 14 (omega arith),
+        byte 15 (omega arith),
+        byte 16 (omega arith),
+        byte 17 (omega arith),
+      )
     where
       byte : (i : ℕ) → i < length T → get_or (T ++ X) i 0 ≡ get_or T i 0
       byte i l = get_or_append_left T X 0 i l
