@@ -7,7 +7,7 @@ ghost use Rattle.lookup.specs.InForce.{rules_of};
 ghost use Rattle.book.specs.Book.{cells};
 ghost use Rattle.month.specs.Firm.{bytes_of, terms_of, totals_of};
 ghost use Rattle.month.specs.Month.{is_excess, any_excess};
-ghost use Rattle.month.specs.Parts.{Within, with_day, sums_to, VerdictsAre};
+ghost use Rattle.month.specs.Parts.{Within, totals_in, with_day, sums_to, VerdictsAre};
 
 use crate::firm::FirmBook;
 use book::cell_in;
@@ -40,6 +40,18 @@ struct MonthSums {
     score: u64,
     lots: u64,
     days: u64,
+}
+
+impl From<MonthSums> for Totals {
+    ghost from_gives = { λ sums t. t ≡ totals_in sums };
+
+    fn from(sums: MonthSums) -> Totals {
+        Totals {
+            raw: sums.raw,
+            score: sums.score,
+            lots: sums.lots,
+        }
+    }
 }
 
 impl MonthSums {
@@ -93,13 +105,8 @@ impl FirmBook<'_> {
             return true;
         }
         let benchmark = u64::from(self.group(g).benchmark);
-        let s = self.month_sums(g as u8);
-        let t = Totals {
-            raw: s.raw,
-            score: s.score,
-            lots: s.lots,
-        };
-        let verdict = days_verdict(s.days, t, benchmark).unwrap_or(NOT_JUDGED);
+        let sums = self.month_sums(g as u8);
+        let verdict = days_verdict(sums.days, Totals::from(sums), benchmark).unwrap_or(NOT_JUDGED);
         !is_violation(verdict.code)
     }
 

@@ -84,10 +84,10 @@ pub(crate) fn give_marks(
     ensures { result ≡ table places (mark p (held marks groups.now)) }
 {
     let mut left = Left::default();
-    for i in 0..PLACES {
-        let code = marks[i];
+    for (i, mark) in marks.iter_mut().enumerate() {
+        let code = *mark;
         let group = groups[i % GROUPS];
-        marks[i] = mark_of(p, code, group.exempt, left.count_in(group.grouping));
+        *mark = mark_of(p, code, group.exempt, left.count_in(group.grouping));
         left = left.with_place(group.grouping, (code == 4) & !group.exempt);
     }
     marks

@@ -56,7 +56,7 @@ pub fn head_ok(head: Head) -> bool
 fn is_letter(x: u8) -> bool
     ensures { result ≡ is_letter x }
 {
-    (65..=90).contains(&x) | (48..=57).contains(&x)
+    x.is_ascii_uppercase() | x.is_ascii_digit()
 }
 
 fn are_letters(code: &[u8]) -> bool

@@ -1,7 +1,7 @@
 // The check of a whole schedule, record by record.
 ghost use Rattle.std.specs.Prelude.{◌≡◌, ◌+◌, ◌^◌, ◌≤◌, ◌<◌, length};
 ghost use Rattle.wire.specs.Choose.{choose};
-ghost use Rattle.records.specs.Bodies.{length_at};
+ghost use Rattle.records.specs.Bodies.{length_at, body_at};
 ghost use Rattle.refusals.specs.Outcome.{cause_number, outcome};
 ghost use Rattle.schedule.specs.Check.{kind_of, is_due, length_ok, is_full, fields_ok, is_repeated};
 ghost use Rattle.schedule.specs.Check.{kind_here, header_causes, body_causes, cause, with_record, after, Fine, check_of};
@@ -29,6 +29,13 @@ enum Kind {
 struct Cursor {
     at: usize,
     held: Layout,
+}
+
+// A record of a schedule: its kind, and its body, which starts after length and kind.
+#[derive(Clone, Copy, Debug, PartialEq, Eq)]
+struct Record<'a> {
+    kind: Kind,
+    body: &'a [u8],
 }
 
 // A schedule, and where its check stands: in bounds, with no more records before it than a schedule has.
@@ -89,40 +96,42 @@ impl Kind {
             Kind::Other => false,
         }
     }
+}
 
+impl Record<'_> {
     #[tactic(auto, unfolding(crate::specs::Check::fields_ok))]
-    fn fields_ok(self, body: &[u8]) -> bool
-        ensures { result ≡ fields_ok self body.now }
+    fn fields_ok(&self) -> bool
+        ensures { result ≡ fields_ok self.now.kind self.now.body.now }
     {
-        match self {
-            Kind::Head => head_ok(head_fields(body)),
-            Kind::Group => group_in_range(group_fields(body)) & contracts_ok(body),
-            Kind::Firm => firm_ok(firm_fields(body)),
+        match self.kind {
+            Kind::Head => head_ok(head_fields(self.body)),
+            Kind::Group => group_in_range(group_fields(self.body)) & contracts_ok(self.body),
+            Kind::Firm => firm_ok(firm_fields(self.body)),
             Kind::Other => true,
         }
     }
 
     #[tactic(auto, using(lookup::proofs::Laws::some_found), unfolding(crate::specs::Check::is_repeated, lookup::specs::Lookup::group_found, lookup::specs::Lookup::firm_found))]
-    fn is_repeated(self, before: &Schedule, body: &[u8]) -> bool
-        ensures { result ≡ is_repeated self before.now.bytes.now before.now.layout body.now }
+    fn is_repeated(&self, before: &Schedule) -> bool
+        ensures { result ≡ is_repeated self.now.kind before.now.bytes.now before.now.layout self.now.body.now }
     {
-        match self {
+        match self.kind {
             Kind::Head => false,
-            Kind::Group => before.find_group(group_fields(body).code).is_some(),
-            Kind::Firm => before.find_firm(body).is_some(),
+            Kind::Group => before.find_group(group_fields(self.body).code).is_some(),
+            Kind::Firm => before.find_firm(self.body).is_some(),
             Kind::Other => false,
         }
     }
 
-    // What the schedule holds with one record more, which ends at `next`.
+    // What the schedule holds with this record, which ends at `next`.
     #[tactic(auto, unfolding(crate::specs::Check::with_record))]
-    fn with_record(self, body: &[u8], next: usize, held: Layout) -> Layout
+    fn added_to(&self, held: Layout, next: usize) -> Layout
         requires { (next < 2 ^ 32) × (held.groups ≤ 32) × (held.firms ≤ 200) }
-        ensures { result ≡ with_record self body.now next held }
+        ensures { result ≡ with_record self.now.kind self.now.body.now next held }
     {
-        match self {
+        match self.kind {
             Kind::Head => {
-                let head = head_fields(body);
+                let head = head_fields(self.body);
                 Layout {
                     month: head.month,
                     closed: head.closed,
@@ -160,6 +169,17 @@ impl Scan<'_> {
         u16_at(self.bytes, self.place.at)
     }
 
+    // The record, whose header is in order.
+    fn record(&self) -> Record
+        ensures kind { result.kind ≡ kind_here self.now.bytes.now self.now.place }
+        ensures body { result.body.now ≡ body_at self.now.bytes.now self.now.place.at }
+    {
+        Record {
+            kind: self.kind(),
+            body: body_at(self.bytes, self.place.at),
+        }
+    }
+
     // Its causes 1, 2 and 3.
     #[tactic(auto, unfolding(wire::specs::Choose::choose))]
     fn check_header(&self) -> Result<(), Cause>
@@ -188,19 +208,18 @@ impl Scan<'_> {
     fn check_body(&self) -> Result<(), Cause>
         ensures { cause_number result ≡ choose (body_causes self.now.bytes.now self.now.place) 0 }
     {
-        let kind = self.kind();
-        if kind.is_full(self.place.held) {
+        let record = self.record();
+        if record.kind.is_full(self.place.held) {
             return Err(Cause::TooMany);
         }
-        let body = body_at(self.bytes, self.place.at);
-        if !kind.fields_ok(body) {
+        if !record.fields_ok() {
             return Err(Cause::BadField);
         }
         let before = Schedule {
             bytes: self.bytes,
             layout: self.place.held,
         };
-        if kind.is_repeated(&before, body) {
+        if record.is_repeated(&before) {
             return Err(Cause::Repeated);
         }
         Ok(())
@@ -219,11 +238,8 @@ impl Scan<'_> {
     fn next_place(&self) -> Cursor
         ensures { result ≡ after self.now.bytes.now self.now.place }
     {
-        let at = self.place.at;
-        let next = at + usize::from(self.length());
-        let held = self
-            .kind()
-            .with_record(body_at(self.bytes, at), next, self.place.held);
+        let next = self.place.at + usize::from(self.length());
+        let held = self.record().added_to(self.place.held, next);
         Cursor { at: next, held }
     }
 }

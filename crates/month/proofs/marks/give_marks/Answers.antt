@@ -15,7 +15,7 @@ loop-i-preserved c =
     let v = c.loop-i.invariant in
     let i = c.loop-i.i in
     let j : Judged = held a.marks a.groups.now in
-    let read : get_or c.loop-i.marks i 0 ≡ get_or a.marks i 0 = rw v.marked (table_read (mark a.p j) i a.marks 0) in
+    let read : get_or c.loop-i.mark-items i 0 ≡ get_or a.marks i 0 = rw v.marked (table_read (mark a.p j) i a.marks 0) in
     let long : length a.marks ≡ places = omega arith in
     let given : c.mark_of.result ≡ mark a.p j i
     = rw (c.mark_of.ensures, read, c.count_in.ensures, v.first, v.second) (mark_by a.p j i (c.requires i c.loop-i-test.true)) in

@@ -8,9 +8,9 @@ use Rattle.month.proofs.marks.give_marks.Given as goal
 
 abbrev pub invariant-loop-i : goal.invariant-loop-i
 invariant-loop-i l =
-    let j = held l.initial.marks l.groups in
+    let j = held l.initial.mark-items l.groups in
     record {
-      marked : l.marks ≡ over (table l.i (mark l.p j)) l.initial.marks;
+      marked : l.mark-items ≡ over (table l.i (mark l.p j)) l.initial.mark-items;
       first : l.left.first ≡ count l.i (left_in j 1);
       second : l.left.second ≡ count l.i (left_in j 2);
     }
