@@ -5,7 +5,6 @@ use crate::stop::Stop;
 use book::{open, post};
 use rules::mep_verdict;
 use statement::{LARGEST, statement};
-use wire::fill;
 
 // What a number of the book and a byte of an output hold before any call, so that what a call leaves alone can be seen.
 const UNTOUCHED: u64 = 7;
@@ -37,10 +36,10 @@ impl<'s, 'b> Runner<'s, 'b> {
     }
 
     fn make_book(&mut self, numbers: usize) -> Result<(), Stop> {
-        if self.book.len() < numbers {
-            return Err(Stop::BookTooLarge);
-        }
-        fill(self.book, numbers, UNTOUCHED);
+        self.book
+            .get_mut(..numbers)
+            .ok_or(Stop::BookTooLarge)?
+            .fill(UNTOUCHED);
         self.numbers = numbers;
         Ok(())
     }
@@ -52,11 +51,8 @@ impl<'s, 'b> Runner<'s, 'b> {
 
     // An output has no more bytes than the largest statement.
     fn print_statement(&mut self, rt: &impl Print, firm: &[u8], size: usize) -> Result<(), Stop> {
-        if LARGEST < size {
-            return Err(Stop::OutputTooLarge);
-        }
         let mut output = [UNTOUCHED_BYTE; LARGEST];
-        let out = &mut output[..size];
+        let out = output.get_mut(..size).ok_or(Stop::OutputTooLarge)?;
         let answer = statement(self.schedule, self.held(), firm, out);
         print_stated(rt, answer, out);
         Ok(())

@@ -113,12 +113,12 @@ fn file_listed(schedule: &Schedule, record: &[u8]) -> Result<Filed, Cause>
     requires { 7 ≤ length «record».now }
     ensures { filed_meaning result ≡ filing_by schedule.now.bytes.now schedule.now.layout «record».now (list_causes schedule.now.bytes.now schedule.now.layout «record».now) }
 {
-    let Some(firm) = schedule.find_firm(&record[FIRM_CODE..DAY]) else {
-        return Err(Cause::UnlistedFirm);
-    };
-    let Some(group) = schedule.find_group(bytes_at(record, GROUP_CODE)) else {
-        return Err(Cause::UnlistedGroup);
-    };
+    let firm = schedule
+        .find_firm(&record[FIRM_CODE..DAY])
+        .ok_or(Cause::UnlistedFirm)?;
+    let group = schedule
+        .find_group(bytes_at(record, GROUP_CODE))
+        .ok_or(Cause::UnlistedGroup)?;
     file_found(schedule, record, firm, group)
 }
 

@@ -91,6 +91,14 @@ module _ (s : Terms) (c : DailyTotals) (g : ℕ) where
   unfolding sums_to
   sums_more n = rw (sum_more, sum_more, sum_more, sum_more) (sym (day_more (counted s c g (n + 1)) (sums_to s c g n) (c g (n + 1))))
 
+  -- the sums with a day more
+  pub sums_next : (day : ℕ) → 1 ≤ day
+      → sums_to s c g (day + 1 - 1) ≡ cond (counted s c g day) (with_day (sums_to s c g (day - 1)) (c g day)) (sums_to s c g (day - 1))
+  sums_next day h =
+      let e : day + 1 - 1 ≡ day - 1 + 1 = omega arith in
+      let f : day - 1 + 1 ≡ day = omega arith in
+      rw (e, sums_more, f) refl
+
   -- what is at most the limit on each counted day
   module _ (f : Totals → ℕ) (small : (day : ℕ) → counted s c g day ≡ true → f (c g day) ≤ limit) where
     over_most : (n : ℕ) → over_counted s c n g f ≤ limit * over_counted s c n g (λ t. 1)

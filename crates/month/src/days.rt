@@ -81,16 +81,16 @@ impl MonthSums {
 
 impl FirmBook<'_> {
     // The sums of a group of the firm over the month.
-    #[tactic(auto, using(crate::proofs::Exempt::sums_more))]
+    #[tactic(auto, using(crate::proofs::Exempt::sums_next))]
     fn month_sums(&self, group: u8) -> MonthSums
         requires { group < most_groups }
         ensures { result ≡ sums_to (terms_of self.now) (totals_of self.now) group 31 }
     {
         let l = self.schedule.layout;
         let mut sums = MonthSums::default();
-        for d in 0..31 {
-            let t = cell_in(self.book, l.groups, self.firm, group, d + 1).totals;
-            let counted = in_effect(l.month, l.closed, d + 1) & (0 < t.raw);
+        for day in 1..=31 {
+            let t = cell_in(self.book, l.groups, self.firm, group, day).totals;
+            let counted = in_effect(l.month, l.closed, day) & (0 < t.raw);
             sums = sums.with_cell(counted, t);
         }
         sums

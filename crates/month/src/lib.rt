@@ -61,9 +61,7 @@ pub fn firm_month(schedule: &[u8], book: &[u64], code: &[u8]) -> Result<Month, R
         bytes: schedule,
         layout,
     };
-    let Some(firm) = schedule.find_firm(code) else {
-        return Err(Refusal::from(Cause::NoSuchFirm));
-    };
+    let firm = schedule.find_firm(code).ok_or(Cause::NoSuchFirm)?;
     if has_excess(layout, book, firm) {
         return Err(Refusal::from(Cause::Excess));
     }

@@ -52,6 +52,7 @@ pub fn head_ok(head: Head) -> bool
     is_month(head.month) & (head.closed >> days == 0)
 }
 
+// A letter of a code: A to Z, or 0 to 9.
 #[tactic(auto, unfolding(crate::specs::Fields::is_letter))]
 fn is_letter(x: u8) -> bool
     ensures { result ≡ is_letter x }
@@ -59,6 +60,7 @@ fn is_letter(x: u8) -> bool
     x.is_ascii_uppercase() | x.is_ascii_digit()
 }
 
+// Every byte of a code is a letter of one.
 fn are_letters(code: &[u8]) -> bool
     ensures { result ≡ are_letters code.now }
 {

@@ -15,7 +15,7 @@ use records::{
 use refusals::{Cause, Refusal};
 use wire::u16_at;
 
-// The kinds of a schedule's records.
+// The kinds of a schedule's records, and all others.
 #[derive(Clone, Copy, Debug, PartialEq, Eq)]
 enum Kind {
     Head,
@@ -169,7 +169,7 @@ impl Scan<'_> {
         u16_at(self.bytes, self.place.at)
     }
 
-    // The record, whose header is in order.
+    // The record's kind and body.
     fn record(&self) -> Record
         ensures kind { result.kind ≡ kind_here self.now.bytes.now self.now.place }
         ensures body { result.body.now ≡ body_at self.now.bytes.now self.now.place.at }
@@ -255,12 +255,10 @@ pub fn check(schedule: &[u8]) -> Result<Layout, Refusal>
             bytes: schedule,
             place,
         };
-        if let Err(cause) = scan.check_record() {
-            return Err(Refusal {
-                cause,
-                offset: place.at,
-            });
-        }
+        scan.check_record().map_err(|cause| Refusal {
+            cause,
+            offset: place.at,
+        })?;
         place = scan.next_place();
     }
     if place.held.firms == 0 {

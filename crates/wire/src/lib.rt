@@ -1,4 +1,4 @@
-// Little-endian numbers of a byte string, the cut of a run of records, small tests of numbers, and a fill of numbers. Every reader is
+// Little-endian numbers of a byte string, the cut of a run of records, and a fill of numbers. Every reader is
 // total: past the end stand zeros.
 #![tactic(auto)]
 

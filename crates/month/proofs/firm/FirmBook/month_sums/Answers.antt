@@ -1,5 +1,5 @@
--- The sums are those of the days so far. A counted day is in effect, so its totals are within the limit, and no sum overflows.
-use Rattle.std.proofs.Common.{◌+◌, arith}
+-- The sums are those of the days before this one. A counted day is in effect, so its totals are within the limit, and no sum overflows.
+use Rattle.std.proofs.Common.{◌-◌, arith}
 use Rattle.rules.specs.Month.{DailyTotals}
 use Rattle.month.specs.Firm.{terms_of, totals_of}
 use Rattle.month.proofs.Exempt.{counted_fits, sums_none, sums-within}
@@ -10,11 +10,11 @@ with_cell-sums-requires c =
     let s = c.args.self.now in
     let f : DailyTotals = totals_of s in
     let fit = counted_fits s.schedule.bytes.now s.book.now s.firm s.sound c.args.group c.requires in
-    let w = sums-within (terms_of s) f c.args.group fit c.loop-d.d in
+    let w = sums-within (terms_of s) f c.args.group fit (c.loop-day.day - 1) in
     record {
-      within = rw c.loop-d.invariant (record { raw = omega (arith, w.raw); score = omega (arith, w.score); lots = omega (arith, w.lots); days = omega (arith, w.days) });
-      t_value = rw (c.in_effect.ensures, c.cell_in.ensures) (fit (c.loop-d.d + 1));
+      within = rw c.loop-day.invariant.1 (record { raw = omega (arith, w.raw); score = omega (arith, w.score); lots = omega (arith, w.lots); days = omega (arith, w.days) });
+      t_value = rw (c.in_effect.ensures, c.cell_in.ensures) (fit c.loop-day.day);
     }
 
-pub loop-d-init : goal.loop-d-init
-loop-d-init c = sums_none _ _ _ c.default-sums.result c.default-sums.ensures
+pub loop-day-init : goal.loop-day-init
+loop-day-init c = (omega arith, sums_none _ _ _ c.default-sums.result c.default-sums.ensures)
