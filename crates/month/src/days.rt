@@ -7,7 +7,7 @@ ghost use Rattle.lookup.specs.InForce.{rules_of};
 ghost use Rattle.book.specs.Book.{cells};
 ghost use Rattle.month.specs.Firm.{bytes_of, terms_of, totals_of};
 ghost use Rattle.month.specs.Month.{is_excess, any_excess};
-ghost use Rattle.month.specs.Parts.{Within, totals_in, with_day, sums_to, VerdictsAre};
+ghost use Rattle.month.specs.Parts.{Within, summed_totals, with_day, sums_to, VerdictsAre};
 
 use crate::firm::FirmBook;
 use book::cell_in;
@@ -43,7 +43,7 @@ struct MonthSums {
 }
 
 impl From<MonthSums> for Totals {
-    ghost from_gives = { λ sums t. t ≡ totals_in sums };
+    ghost from_gives = { λ sums t. t ≡ summed_totals sums };
 
     fn from(sums: MonthSums) -> Totals {
         Totals {

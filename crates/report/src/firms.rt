@@ -39,7 +39,7 @@ fn put_firm(out: &mut Output, schedule: &Schedule, book: &[u64], firm: u8)
     let code = schedule.firm(firm).code;
     let mut records = [0; LARGEST];
     match statement(schedule.bytes, book, &code, &mut records) {
-        Err(refusal) => out.put_line(Line::Refused(refusal.cause)),
+        Err(refusal) => out.put_line(Line::Refused(refusal.cause.number())),
         Ok(bytes) => put_statement(out, &code, &records[..bytes]),
     }
 }

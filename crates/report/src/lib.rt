@@ -53,7 +53,10 @@ fn put_report(out: &mut Output, input: &[u8])
     }
     let (bytes, run) = input.split_at(schedule_end(input));
     match check_book(bytes, BOOK) {
-        Err(refusal) => out.put_line(Line::RefusedAt(refusal)),
+        Err(refusal) => out.put_line(Line::RefusedAt {
+            number: refusal.cause.number(),
+            offset: refusal.offset,
+        }),
         Ok(layout) => put_month(out, &Schedule { bytes, layout }, run),
     }
 }

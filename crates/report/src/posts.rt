@@ -16,7 +16,7 @@ fn put_post(out: &mut Output, schedule: &[u8], book: &mut [u64], record: &[u8])
     ensures book_after { book.new ≡ post_book schedule.now book.old «record».now }
 {
     if let Err(refusal) = post(schedule, book, record) {
-        out.put_line(Line::Refused(refusal.cause));
+        out.put_line(Line::Refused(refusal.cause.number()));
     }
 }
 

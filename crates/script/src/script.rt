@@ -1,5 +1,5 @@
 // A script that is read from its front on. Past its end stand zeros.
-ghost use Rattle.std.specs.Prelude.{◌≡◌, ◌+◌, length, get_or, leb};
+ghost use Rattle.std.specs.Prelude.{◌≡◌, ◌+◌, ◌-◌, length, take, drop, get_or, leb};
 ghost use Rattle.wire.specs.Bytes.{u32_at};
 ghost use Rattle.wire.specs.Lists.{table};
 ghost use Rattle.script.specs.Script.{u64_at, piece_at, bytes_on, piece_on};
@@ -30,10 +30,17 @@ impl<'a> Script<'a> {
     }
 
     // Moves n bytes on, and no further than the script's end; a place past the end stays.
-    fn skip(&mut self, n: usize)
+    pub fn skip(&mut self, n: usize)
         ensures { self.new ≡ bytes_on self.old n }
     {
         self.at += n.min(self.bytes.len().saturating_sub(self.at));
+    }
+
+    // The bytes from one place to another, as many of them as the script has.
+    pub fn between(&self, start: usize, end: usize) -> &'a [u8]
+        ensures { result.now ≡ take (end - start) (drop start self.now.bytes.now) }
+    {
+        tail(&self.bytes[..end.min(self.bytes.len())], start)
     }
 
     // Reads so many bytes.
@@ -81,6 +88,6 @@ impl<'a> Script<'a> {
         let size = self.u32();
         let start = self.at;
         self.skip(size as usize);
-        tail(&self.bytes[..self.at.min(self.bytes.len())], start)
+        self.between(start, self.at)
     }
 }

@@ -3,7 +3,6 @@
 -- Assumes nothing.
 use Rattle.std.specs.Prelude.{ℕ, List, [], ◌∷◌, ◌++◌, eqb}
 use Rattle.wire.specs.Choose.{choose}
-use Rattle.refusals.specs.Outcome.{number_of}
 use Rattle.statement.specs.Layout.{line_day, line_first, line_second, line_mark, line_dollars}
 use Rattle.statement.specs.Layout.{totals_grouping, totals_violations, totals_monthly, totals_automatic, totals_billed, totals_dollars}
 use Rattle.text.specs.Text.{text, decimal, field}
@@ -30,8 +29,8 @@ refused_at number offset = text "refused " ++ decimal number ++ text " at " ++ d
 abbrev pub line_text : Line → List ℕ
 line_text line.TooLong = too_long
 line_text (line.Heading month) = heading month
-line_text (line.Refused c) = refused_line (number_of c)
-line_text (line.RefusedAt r) = refused_at (number_of r.cause) r.offset
+line_text (line.Refused number) = refused_line number
+line_text (line.RefusedAt number offset) = refused_at number offset
 
 -- the words of the marks: 1 severe, 2 billed, 3 monthly, 4 automatic
 unfoldable pub mark_word : (mark : ℕ) → List ℕ

@@ -1,11 +1,9 @@
 // The lines of a report.
 ghost use Rattle.std.specs.Prelude.{◌≡◌};
-ghost use Rattle.refusals.specs.Outcome.{number_of};
 ghost use Rattle.text.specs.Text.{Wrote};
 ghost use Rattle.text.specs.Lines.{refused_at, line_text, mark_word, violation_line, counts, totals_line};
 
 use crate::Output;
-use refusals::{Cause, Refusal};
 use statement::{
     LINE_DAY, LINE_DOLLARS, LINE_GROUP, LINE_MARK, TOTALS_AUTOMATIC, TOTALS_BILLED, TOTALS_DOLLARS,
     TOTALS_GROUPING, TOTALS_MONTHLY, TOTALS_VIOLATIONS,
@@ -17,8 +15,8 @@ use wire::{byte_at, bytes_at, u16_at, u32_at};
 pub enum Line {
     TooLong,
     Heading(u16),
-    Refused(Cause),
-    RefusedAt(Refusal),
+    Refused(u8),
+    RefusedAt { number: u8, offset: usize },
 }
 
 // The word of a mark.
@@ -36,11 +34,11 @@ fn mark_word(mark: u8) -> &'static [u8]
 
 impl Output<'_> {
     // Writes the line of a refused schedule or book.
-    fn put_refused_at(&mut self, refusal: Refusal)
-        ensures { Wrote self.old (refused_at (number_of refusal.cause) refusal.offset) self.new }
+    fn put_refused_at(&mut self, number: u8, offset: usize)
+        ensures { Wrote self.old (refused_at number offset) self.new }
     {
-        self.put_number(b"refused ", u64::from(refusal.cause.number()), b" at ");
-        self.put_decimal(refusal.offset as u64);
+        self.put_number(b"refused ", u64::from(number), b" at ");
+        self.put_decimal(offset as u64);
         self.put(b"\n");
     }
 
@@ -52,8 +50,8 @@ impl Output<'_> {
         match line {
             Line::TooLong => self.put(b"too long\n"),
             Line::Heading(month) => self.put_number(b"MPS ", u64::from(month), b"\n"),
-            Line::Refused(cause) => self.put_number(b"refused ", u64::from(cause.number()), b"\n"),
-            Line::RefusedAt(refusal) => self.put_refused_at(refusal),
+            Line::Refused(number) => self.put_number(b"refused ", u64::from(number), b"\n"),
+            Line::RefusedAt { number, offset } => self.put_refused_at(number, offset),
         }
     }
 

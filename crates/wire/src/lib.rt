@@ -1,5 +1,5 @@
-// Little-endian numbers of a byte string, the cut of a run of records, and a fill of numbers. Every reader is
-// total: past the end stand zeros.
+// Little-endian numbers of a byte string, the cut of a run of records, and a fill of numbers. Every reader of a number is total: past the
+// end stand zeros.
 #![tactic(auto)]
 
 ghost use Rattle.std.specs.Prelude.{◌≡◌, ◌+◌, ◌≤◌, min, length, drop, get_or};

@@ -17,7 +17,7 @@ unfolding zeros
 returns-in-Err c =
     let s = c.args.schedule.now in
     let code : c.firm.result.code ≡ code_of s.bytes.now s.layout c.args.firm = ap (λ f. f.code) c.firm.ensures in
-    rw (← lines_refused _ _ c.statement.ensures _ _ code refl (ap outcome c.in-Err.is)) c.put_line.ensures
+    rw (← lines_refused _ _ c.statement.ensures _ _ code refl (ap outcome c.in-Err.is)) (rw c.number.ensures at c.put_line.ensures)
 
 pub returns-in-Ok : goal.returns-in-Ok
 unfolding zeros

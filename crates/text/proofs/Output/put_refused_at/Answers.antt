@@ -5,4 +5,4 @@ use Rattle.text.proofs.Output.put_refused_at.Goals as goal
 
 pub returns : goal.returns
 unfolding refused_at
-returns c = (rw (c.from.ensures, c.number.ensures) at c.put_number.ensures) then c.put_decimal.ensures then c.put.ensures
+returns c = (rw c.from.ensures at c.put_number.ensures) then c.put_decimal.ensures then c.put.ensures

@@ -5,7 +5,7 @@ use mathlib.Core.Path.{sym, ap, ap₂, ◌∙◌}
 use Rattle.rules.specs.Month.{DailyTotals}
 use Rattle.rules.specs.Verdict.{is_violation, days_verdict}
 use Rattle.schedule.proofs.Found.{group-listed}
-use Rattle.month.specs.Parts.{sums_to, totals_in, verdict_in}
+use Rattle.month.specs.Parts.{sums_to, summed_totals, verdict_in}
 use Rattle.month.specs.declared.days.MonthSums.{MonthSums}
 use Rattle.month.specs.Firm.{terms_of, totals_of}
 use Rattle.month.proofs.Exempt.{counted_fits, verdict_told, exempt_verdict}
@@ -22,7 +22,7 @@ returns c =
     -- the verdict is that on the group's sums
     let decided = ap verdict_in c.days_verdict.ensures
     ∙ ap (λ t. verdict_in (days_verdict c.month_sums-sums.result.days t c.from-benchmark.result)) c.from-2.ensures
-    ∙ ap₂ (λ (s : MonthSums) B. verdict_in (days_verdict s.days (totals_in s) B))
+    ∙ ap₂ (λ (s : MonthSums) B. verdict_in (days_verdict s.days (summed_totals s) B))
     c.month_sums-sums.ensures (c.from-benchmark.ensures ∙ ap (λ g. g.benchmark) c.group.ensures) in
     let benchmark = (group-listed s.schedule.bytes.now s.sound.checked g (rw c.from.ensures at c.if-from-g.false)).benchmark in
     ap not (c.is_violation.ensures ∙ ap (λ v. is_violation v.code) (verdict_told c.days_verdict.result c.unwrap_or-verdict.ensures))
