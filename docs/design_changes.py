@@ -1,8 +1,8 @@
 #!/usr/bin/env python3
 """Prints the last part of docs/DESIGN-PASS.md: docs/design_changes.py OLD [NEW], at the top of the repository.
 
-What public signatures, clauses, types, definitions, theorems and lemmas changed from the commit OLD to NEW. What states the promise
-of a thing that went is read from the page, "?" where the page has nothing yet."""
+What public signatures, clauses, types, definitions, theorems and lemmas changed from the commit OLD to NEW, and which private
+functions went. What states the promise of a thing that went is read from the page, "?" where the page has nothing yet."""
 import re
 import subprocess
 import sys
@@ -65,15 +65,18 @@ def declarations(text):
 
 
 def antt(commit):
-    """(crate, specs or proofs, name) -> text, of all files but those of functions' proofs."""
+    """(crate, specs or proofs or answers, name) -> text: a lemma of a function's answers has the function's name before its own."""
     out = {}
     for path, text in files(commit, r"/(specs|proofs)/.*\.antt$").items():
         crate, kind = path.split("/")[1:3]
-        last = path.split("/")[-1]
-        if last in ("Invariants.antt", "Lib.antt", "Proof.antt") or last == "Answers.antt" and not path.endswith("/proofs/Answers.antt"):
+        last, owner = path.split("/")[-1], ""
+        if last in ("Invariants.antt", "Lib.antt"):
             continue
+        if last in ("Answers.antt", "Proof.antt") and not path.endswith("/proofs/Answers.antt"):
+            kind, owner = "answers", "::".join(path.split("/")[3:-1]) + "::"
         for name, text in declarations(text).items():
-            out[(crate, kind, name)] = text
+            if ": goal." not in text and name != "with_number_spec":
+                out[(crate, kind, owner + name)] = text
     return out
 
 
@@ -100,7 +103,7 @@ def signature(text, start):
 
 
 def code(commit):
-    """(crate, kind, name) -> text, of public functions, types, ghost members and constants."""
+    """(crate, kind, name) -> text, of functions, types, ghost members and public constants."""
     out = {}
     for path, text in files(commit, r"/src/.*\.rt$").items():
         crate = path.split("/")[1]
@@ -109,8 +112,8 @@ def code(commit):
         for m in FUNCTION.finditer(text):
             around = [name for at, name in impls if at < m.start()] if m.group(1) else []
             owner = around[-1] + "::" if around else ""
-            if m.group(2).startswith("pub ") or " for " in owner:
-                out[(crate, "pub fn", owner + m.group(3))] = signature(text, m.start(2))
+            kind = "pub fn" if m.group(2).startswith("pub ") or " for " in owner else "fn"
+            out[(crate, kind, owner + m.group(3))] = signature(text, m.start(2))
         for m in TYPE.finditer(text):
             out[(crate, "type", m.group(3))] = squeeze((m.group(1) or "") + m.group(2))
         for m in re.finditer(r"^(impl[^\n]*? for [^\n{]*)\{\n(.*?)^\}", text, re.M | re.S):
@@ -139,10 +142,13 @@ def show(title, old, new, now):
 def main():
     commits = (sys.argv[1], sys.argv[2] if len(sys.argv) > 2 else "HEAD")
     now = replacements()
-    show("Public signatures, clauses and types", *(code(c) for c in commits), now)
+    codes = [code(c) for c in commits]
+    show("Public signatures, clauses and types", *({k: t for k, t in d.items() if k[1] != "fn"} for d in codes), now)
+    show("Private functions that went", {k: t for k, t in codes[0].items() if k[1] == "fn" and k not in codes[1]}, {}, now)
     all_of = [antt(c) for c in commits]
     show("Definitions and theorems in specs/", *({k: t for k, t in d.items() if k[1] == "specs"} for d in all_of), now)
     show("Lemmas in proofs/", *({k: statement(k[2], t) for k, t in d.items() if k[1] == "proofs"} for d in all_of), now)
+    show("Lemmas in the answers of functions", *({k: statement(k[2].split("::")[-1], t) for k, t in d.items() if k[1] == "answers"} for d in all_of), now)
 
 
 main()
