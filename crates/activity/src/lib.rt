@@ -4,7 +4,7 @@
 mod correction;
 
 ghost use Rattle.std.specs.Prelude.{◌≡◌, ◌+◌, ◌<◌, ◌^◌};
-ghost use Rattle.activity.specs.Activity.{is_activity, new_orders, fak_fok, minimum_quantity_impossible, raw_count, score, totals_of};
+ghost use Rattle.activity.specs.Activity.{is_activity, minimum_quantity_impossible, raw_count, score, totals_of};
 ghost use Rattle.wire.specs.Bytes.{u32_at};
 
 pub use correction::{CORRECTION_LENGTH, Correction, correction_fields, is_correction, is_sound};

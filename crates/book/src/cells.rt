@@ -1,5 +1,5 @@
 // Where the cells stand in the book, and how many numbers it needs.
-ghost use Rattle.std.specs.Prelude.{◌≡◌, ◌+◌, ◌^◌, ◌≤◌, ◌<◌, length, get_or};
+ghost use Rattle.std.specs.Prelude.{◌≡◌, ◌+◌, ◌^◌, ◌≤◌, ◌<◌, length};
 ghost use Rattle.refusals.specs.Outcome.{outcome};
 ghost use Rattle.book.specs.Book.{width, size, index, cell_at, with_cell, cells, check_book};
 

@@ -22,7 +22,7 @@ fn main(rt: HostRuntime) -> io::Result<()> {
     let mut input = [0; INPUT + 1];
     let n = read_full(&mut rt.reader(), &mut input)?;
     let mut out = output_buffer();
-    // Cut never, for no report is longer than this output (report_laws).
+    // Never cut, for no report is longer than this output (report_laws).
     let bytes = report(&input[..n], &mut out).unwrap_or_else(|cut| cut.bytes);
     rt.write_all(&out[..bytes])
 }

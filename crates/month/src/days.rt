@@ -1,5 +1,5 @@
 // A firm's days in the book: refusal 22, the verdicts on its places, the month's sums and exemptions.
-ghost use Rattle.std.specs.Prelude.{true, false, cond, ◌≡◌, ◌≤◌, ◌<◌};
+ghost use Rattle.std.specs.Prelude.{true, cond, ◌≡◌, ◌≤◌, ◌<◌};
 ghost use Rattle.rules.specs.Verdict.{fits};
 ghost use Rattle.rules.specs.Month.{exempt};
 ghost use Rattle.rules.specs.Marks.{most_groups, places, verdict_at};

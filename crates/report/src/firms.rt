@@ -1,10 +1,10 @@
 // The firms' statements as text.
 ghost use Rattle.std.specs.Prelude.{◌≡◌, ◌*◌, ◌/◌, ◌≤◌, length, drop};
 ghost use Rattle.wire.specs.Lists.{joined};
-ghost use Rattle.statement.specs.Layout.{line_size, both_totals, largest};
+ghost use Rattle.statement.specs.Layout.{line_size, both_totals};
 ghost use Rattle.text.specs.Text.{Wrote};
 ghost use Rattle.text.specs.Lines.{violation_line};
-ghost use Rattle.report.specs.Report.{zeros, statement_lines, statement_of};
+ghost use Rattle.report.specs.Report.{statement_lines, statement_of};
 
 use lookup::Schedule;
 use statement::{BOTH_TOTALS, LARGEST, LINE, TOTALS, statement};

@@ -12,6 +12,7 @@ use Rattle.schedule.specs.Check.{begin, cause, check_of}
 use Rattle.schedule.proofs.Turns.{scan_next, accepted}
 use Rattle.schedule.proofs.scan.check.Goals as goal
 
+-- an answer that is no refusal has the number 0
 ok_is_0 : (r : Result (Unit {0}) Cause) → is_ok r ≡ true → cause_number r ≡ 0
 ok_is_0 (Ok u) e = refl
 ok_is_0 (Err c) e = cc
