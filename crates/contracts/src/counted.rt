@@ -45,7 +45,7 @@ impl GroupBody<'_> {
     }
 
     // What stands before place n of the listing.
-    #[tactic(auto, using(wire::proofs::Sums::count_most, wire::proofs::Sums::sum_more), unfolding(crate::specs::Counted::in_front, crate::specs::Counted::is_after, crate::specs::Counted::is_late, wire::specs::Sums::sum))]
+    #[tactic(auto, using(wire::proofs::Sums::count_most, wire::proofs::Sums::sum_more), unfolding(crate::specs::Counted::in_front, crate::specs::Counted::is_after, crate::specs::Counted::is_late))]
     fn passed_before(&self, n: usize) -> Passed
         requires { n ≤ listed self.now.body.now }
         ensures { PassedIs self.now.body.now n result }
