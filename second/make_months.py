@@ -175,17 +175,20 @@ def messages(r, raw, score, lots):
     rest = score - 3 * scored_only
     ended = r.randint(min(max(0, -(-(rest - raw) // 2)), rest // 3), rest // 3)
     modified = rest - 3 * ended
-    cancelled, minimum = r.randint(0, ended), r.choice((0, r.randint(0, scored_only), scored_only))
+    new, cancelled = max(0, raw - ended - modified), r.randint(0, ended)
+    most = min(scored_only, new + ended - cancelled)  # minimum-quantity orders are among the new and FAK/FOK orders
+    minimum = r.choice((0, r.randint(0, most), most))
     requests = r.randint(0, scored_only - minimum)
-    return [max(0, raw - ended - modified), modified, cancelled, ended - cancelled, requests,
-            scored_only - minimum - requests, minimum, lots]
+    return [new, modified, cancelled, ended - cancelled, requests, scored_only - minimum - requests, minimum, lots]
 
 
 def split(r, counts):
-    """The counts in one record, or spread over two or three."""
+    """The counts in one record, or spread over two or three; none has more minimum-quantity orders than orders."""
     parts = []
     for _ in range(r.choice((0, 0, 1, 2))):
         part = [r.randint(0, n) for n in counts]
+        orders, minimum = part[0] + part[3], counts[6]
+        part[6] = r.randint(max(0, minimum - (counts[0] + counts[3] - orders)), min(minimum, orders))
         counts = [n - m for n, m in zip(counts, part)]
         parts.append(part)
     return parts + [counts]
@@ -239,13 +242,18 @@ def any_cell(r, month):
 
 
 def odd_activity(r, month):
-    """Activity that is refused, that lies outside, or that counts nothing."""
+    """Activity that is refused, that lies outside, that counts nothing, or whose minimum-quantity orders are all that can be."""
     (code, day, g), last = any_cell(r, month), days_in(month.number)
     contract, counts = r.choice(g.listed), [r.randrange(30_000) for _ in range(8)]
     usual = activity(code, day, g.code, contract, counts)
+    # orders: none, few, many, or more than a count holds; minimum-quantity orders: as many or one more, if a count holds that
+    new, fak_fok = r.choice(((0, 0), (r.randrange(9), r.randrange(9)), (1 << 31, (1 << 31) - 2), (TOP, 1)))
+    edge = new, 0, 0, fak_fok, 0, 0, min(TOP, new + fak_fok + r.randint(0, 1)), 0
     return r.choice((
         usual,
         activity(code, day, g.code, contract),
+        activity(code, day, g.code, contract, edge),
+        activity(code, r.choice(month.closed_days()), g.code, contract, edge),
         activity(r.choice((b"abc", *codes(r, 3, 1))), day, g.code, contract, counts),
         activity(code, day, r.choice((b"es", *codes(r, 2, 1))), contract, counts),
         activity(code, r.choice((0, last + 1, 32, 255)), g.code, contract, counts),
@@ -287,7 +295,8 @@ def full_cell(r, month):
     """Records that fill one total of a cell to the limit or one below it, and then more; often with corrections."""
     g, place = r.choice(month.groups), r.choice((0, 1, 4, 6, 7))
     full = [LIMIT // 3] if place in (4, 6) else [TOP, TOP, LIMIT - 2 * TOP - r.randint(0, 1)]
-    rows = [[n if j == place else 0 for j in range(8)] for n in full]
+    filled = (0, 6) if place == 6 else (place,)  # with as many new orders as minimum-quantity orders
+    rows = [[n if j in filled else 0 for j in range(8)] for n in full]
     rows += [[0] * 8, [0, 1] + [0] * 6, [0] * 7 + [1], [0, 1] + [0] * 5 + [1], [r.randrange(TOP) for _ in range(8)]]
     code, day = r.choice(month.firms), r.choice(month.open_days())
     records = [activity(code, day, g.code, r.choice(g.traded()), counts) for counts in rows]

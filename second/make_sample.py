@@ -50,13 +50,15 @@ ACTIVITY = (
     (b"K7M", 3, b"CL", 24_238, (30_000, 30_000, 18_000, 2_000, 0, 0, 400, 8_000)),
     (b"K7M", 3, b"CL", 24_360, (200, 150, 90, 0, 0, 0, 0, 15)),
     # In NG Saturday the 5th lies outside; of four failed days, the 11th in the extra contract, April 2020, two are waived
-    # and the 16th and the 22nd are billed; the 23rd is severe. The report of the 16th lacks a contract: not judged.
+    # and the 16th and the 22nd are billed; the 23rd is severe. The report of the 16th lacks a contract: not judged. That of the
+    # 24th gives the number of all its messages as minimum-quantity orders, with which the day would fail: refused 33.
     (b"K7M", 4, b"NG", 24_238, (20_000, 15_000, 14_000, 1_000, 0, 0, 0, 4_000)),
     (b"K7M", 5, b"NG", 24_238, (9_000, 4_000, 11_000, 1_000, 0, 0, 0, 0)),
     (b"K7M", 11, b"NG", 24_243, (14_000, 16_000, 10_500, 700, 12, 12, 0, 2_900)),
     (b"K7M", 16, b"NG", 24_238, (7_000, 6_000, 2_700, 300, 0, 0, 0, 700)),
     (b"K7M", 22, b"NG", 24_239, (11_000, 9_000, 9_500, 500, 0, 0, 0, 1_200)),
     (b"K7M", 23, b"NG", 24_240, (20_000, 10_500, 28_000, 2_000, 0, 0, 0, 300)),
+    (b"K7M", 24, b"NG", 24_238, (9_000, 8_000, 3_500, 500, 0, 0, 21_000, 2_000)),
 )
 
 # Firm, day, group, edition, then raw, score and lots.

@@ -1,5 +1,5 @@
 -- Lists of posts: accepted totals and editions, a firm's own posts, and the book after a list (document 01, "The book and its calls", on demand 3,
--- and document 02, 2.3).
+-- and document 02, 2.3 and 2.5).
 -- S is the schedule, rs the list of posted records, each any bytes.
 -- Assumes nothing.
 use Rattle.std.specs.Prelude.{ℕ, Bool, cond, ◌&&◌, eqb}

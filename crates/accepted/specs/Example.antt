@@ -1,12 +1,12 @@
 -- A computed example of posts: a schedule as in document 01's whole run (October 2019, ES, firm ABC), but with day 2 not in effect, and
 -- records whose counts are all different, so that a count read in the place of another, or another factor, would show; then (document 02, 2.2) a
 -- FAK order with a minimum quantity, and a score that minimum-quantity orders bring to one below the limit; then (document 02, 2.3) corrections among
--- activity.
+-- activity; then (document 02, 2.5) impossible minimum quantities.
 -- Assumes nothing.
 use Rattle.std.specs.Prelude.{ℕ, ◌+◌, ◌*◌, List, [], ◌∷◌, ◌++◌, ◌≡◌, refl, drop}
 use Rattle.wire.specs.Bytes.{u16_at, u32_at}
 use Rattle.wire.specs.Choose.{choose, all, seek_in}
-use Rattle.wire.specs.Lists.{joined, table, put, over}
+use Rattle.wire.specs.Lists.{joined, keep, table, put, over}
 use Rattle.wire.specs.Sums.{sum}
 use Rattle.calendar.specs.Calendar.{days_in}
 use Rattle.contracts.specs.Counted.{contract_listed, contract_counted, in_front, is_after, is_counted, contract_is}
@@ -22,8 +22,8 @@ use Rattle.book.specs.Book.{per_firm_group, index, with_cell, check_book, open_b
 use Rattle.book.specs.Post.{taking, post_answer, post_book}
 use Rattle.book.specs.declared.posting.Effect.{Effect}
 use Rattle.book.specs.declared.posting.Effect.TheVariants as effect
-use Rattle.accepted.specs.Accepted.{accepted_cells, accepted, posted}
-use Rattle.accepted.specs.Samples.{head, group, firm, activity, correction_with, correction}
+use Rattle.accepted.specs.Accepted.{accepted_cells, accepted, own, posted}
+use Rattle.accepted.specs.Samples.{head, group, ABC, firm, activity, correction_with, correction}
 
 -- October 2019 with day 2 not in effect, ES and ABC
 abbrev schedule : List ℕ
@@ -68,6 +68,14 @@ wrong =
     ∷ correction 88 88 5 9 7 8 9 ∷ amend 0 9 ∷ (amend 5 9 ++ 0 ∷ []) ∷ (32 ∷ 0 ∷ 9 ∷ 0 ∷ drop 4 (amend 5 9))
     ∷ []
 
+-- two new orders and three FAK/FOK orders with six minimum-quantity orders, then with five; with six on day 2, which is not in effect, and in an
+-- unlisted contract; on day 8 new orders and FAK/FOK orders that are 2³² together, with one minimum-quantity order
+abbrev minimums : List (List ℕ)
+minimums =
+    orders 7 2 0 3 6 ∷ orders 7 2 0 3 5 ∷ orders 2 2 0 3 6 ∷ activity 69 83 7 24240 2 0 0 3 0 0 6 0
+    ∷ orders 8 4294967295 0 1 1
+    ∷ []
+
 -- a book with one number more than it needs, opened
 abbrev book : List ℕ
 book = open_book schedule (table (per_firm_group + 1) (λ i. 7))
@@ -79,6 +87,14 @@ fifth_day = index 1 0 0 5
 -- the book with that cell as no post leaves it: its totals above the limit, its edition 1
 abbrev spoilt : List ℕ
 spoilt = with_cell book fifth_day (record { totals = record { raw = 20000000000; score = 20000000000; lots = 20000000000 }; edition = 1 })
+
+-- where the cell of day 7 stands
+abbrev seventh_day : ℕ
+seventh_day = index 1 0 0 7
+
+-- the book with what the first of `minimums` added to that cell before 2.5
+abbrev earlier : List ℕ
+earlier = with_cell book seventh_day (record { totals = record { raw = 5; score = 27; lots = 0 }; edition = 0 })
 
 -- the answers to a list, each post taking the book as the one before left it
 abbrev answers : (B : List ℕ) → (rs : List (List ℕ)) → List (Outcome Effect)
@@ -113,11 +129,21 @@ pub record Example : Type 0 where
   pub replaced : answers spoilt (orders 5 1 0 0 0 ∷ amend 5 1 ∷ amend 5 2 ∷ []) ≡ refused 32 0 ∷ refused 32 0 ∷ good effect.Counted ∷ []
   pub refusals : answers book wrong
       ≡ refused 31 0 ∷ refused 31 0 ∷ refused 31 0 ∷ refused 15 0 ∷ refused 16 0 ∷ refused 13 0 ∷ refused 12 0 ∷ []
+  -- 2.5: a record is refused with one minimum-quantity order too many, on a day not in effect too, and taken with an equal number; 17 comes before; the
+  -- sum of new orders and FAK/FOK orders does not wrap
+  pub impossible : answers book minimums ≡ refused 33 0 ∷ good effect.Counted ∷ refused 33 0 ∷ refused 17 0 ∷ good effect.Counted ∷ []
+  pub equal : accepted schedule minimums 0 0 7 ≡ record { raw = 5; score = 24; lots = 0 }
+  -- a record that 33 refuses is its firm's own all the same
+  pub owns : own ABC minimums ≡ minimums
+  -- counts that stand in a book stay, and what is taken adds to them, until a correction replaces them; 33 comes before 32
+  pub stands : posted schedule earlier (orders 7 2 0 3 6 ∷ orders 7 2 0 3 5 ∷ []) ≡ put seventh_day (10 ∷ 51 ∷ 0 ∷ 0 ∷ []) book
+  pub amended : posted schedule earlier (amend 7 1 ∷ []) ≡ put seventh_day (7 ∷ 8 ∷ 9 ∷ 1 ∷ []) book
+  pub precedes : answers earlier (amend 7 1 ∷ orders 7 2 0 3 6 ∷ orders 7 2 0 3 5 ∷ []) ≡ good effect.Counted ∷ refused 33 0 ∷ refused 32 0 ∷ []
 
 pub example : Example
 unfolding accepted_cells posted taking totals_of correction_fields check_book check_of scan ending with_record cause is_repeated fields_ok is_full length_ok is_due kind_of
     firm_listed group_listed firm_is group_is group_start firm_ok firm_fields has_code group_in_range group_fields contracts_ok contract_bad before contract
-    listed head_ok head_fields is_letter contract_is is_counted is_after in_front contract_counted contract_listed days_in sum joined seek_in all choose u32_at
+    listed head_ok head_fields is_letter contract_is is_counted is_after in_front contract_counted contract_listed days_in sum joined keep seek_in all choose u32_at
     u16_at
 example =
     record {
@@ -133,4 +159,10 @@ example =
       keeps = refl;
       replaced = refl;
       refusals = refl;
+      impossible = refl;
+      equal = refl;
+      owns = refl;
+      stands = refl;
+      amended = refl;
+      precedes = refl;
     }

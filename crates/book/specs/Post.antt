@@ -1,5 +1,5 @@
 -- A post: the causes that refuse a record, its own and its cell's, its answer, and the book after it (document 01, "The book and its calls" and
--- "Numbers of refusal", and document 02, 2.3).
+-- "Numbers of refusal", and document 02, 2.3 and 2.5).
 -- S is the schedule, l what it holds, R the record, B the book.
 -- Assumes nothing.
 use Rattle.std.specs.Prelude.{ℕ, Bool, true, false, cond, not, List, ◌≡◌, length}
@@ -24,7 +24,7 @@ module _ (S : List ℕ) (l : Layout) where
   abbrev pub index_of : (R : List ℕ) → ℕ
   index_of R = index l.groups (firm_place_of S l R) (group_place_of S l R) (day R)
 
-  -- Numbers of refusal, top to bottom, of a record whose cell is c: 11 to 17 with 31 after 13; "outside"; 32 and 18; else "counted"
+  -- Numbers of refusal, top to bottom, of a record whose cell is c: 11 to 17 with 31 after 13 and 33 after 17; "outside"; 32 and 18; else "counted"
   unfoldable pub taking : (c : Cell) → (R : List ℕ) → Outcome Effect
   taking c R =
       asked (record_causes S l R) (

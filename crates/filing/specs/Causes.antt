@@ -1,5 +1,5 @@
 -- The causes that refuse a posted record, activity or a correction, but for its cell's, and which records are counted (document 01, "Numbers of
--- refusal" and "The book and its calls", and document 02, 2.3). S is the schedule, l what it holds, R the record.
+-- refusal" and "The book and its calls", and document 02, 2.3 and 2.5). S is the schedule, l what it holds, R the record.
 -- Assumes nothing.
 use Rattle.std.specs.Prelude.{ℕ, Bool, true, cond, not, ◌&&◌, ◌||◌, List, [], ◌∷◌, ◌++◌, ltb, eqb, length}
 use Rattle.calendar.specs.Calendar.{has_day, in_effect}
@@ -7,7 +7,7 @@ use Rattle.records.specs.Bodies.{length_at, body_at}
 use Rattle.contracts.specs.Counted.{contract_listed, contract_counted}
 use Rattle.lookup.specs.Lookup.{group_start, group_place, group_listed, firm_place, firm_listed}
 use Rattle.lookup.specs.declared.Layout.{Layout}
-use Rattle.activity.specs.Activity.{activity_length, is_activity, firm_code, day, group_code, contract_of}
+use Rattle.activity.specs.Activity.{activity_length, is_activity, firm_code, day, group_code, contract_of, minimum_quantity_impossible}
 use Rattle.activity.specs.Correction.{correction_length, is_correction, correction_fields, is_sound}
 
 -- Records and 2.3: the length of the record's kind, 44 or 32; no other kind is asked for its length, as 12 refuses it
@@ -40,13 +40,15 @@ module _ (S : List ℕ) (l : Layout) where
   group_body R = body_at S (group_start S l.first (group_place_of R))
 
   -- Numbers of refusal, 14 to 17, against the schedule: firm unlisted; group unlisted; day 0 or past the month; activity in a contract unlisted for
-  -- the group (2.3: 14 to 16 hold for a correction too)
+  -- the group (2.3: 14 to 16 hold for a correction too). 2.5, 33, of the record alone and asked directly after 17: activity with more
+  -- minimum-quantity orders than new orders and FAK/FOK orders together
   abbrev pub list_causes : (R : List ℕ) → List (Bool × ℕ)
   list_causes R =
       (not (firm_listed S l (firm_code R)), 14)
       ∷ (not (group_listed S l (group_code R)), 15)
       ∷ (not (has_day l.month (day R)), 16)
       ∷ (is_activity R && not (contract_listed (group_body R) (contract_of R)), 17)
+      ∷ (is_activity R && minimum_quantity_impossible R, 33)
       ∷ []
 
   -- Numbers of refusal, top to bottom: all that is asked of a record before its cell

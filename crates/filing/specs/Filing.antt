@@ -1,5 +1,5 @@
--- How a schedule takes a posted record (document 01, "The book and its calls", post, and document 02, 2.3). S is the schedule, l what it holds, R the
--- record.
+-- How a schedule takes a posted record (document 01, "The book and its calls", post, and document 02, 2.3 and 2.5). S is the schedule, l what it
+-- holds, R the record.
 -- Assumes nothing.
 use Rattle.std.specs.Prelude.{ℕ, Bool, cond, List, Result, Ok, Err, ◌≡◌, eqb}
 use Rattle.wire.specs.Choose.{choose}
@@ -37,7 +37,7 @@ module _ (S : List ℕ) (l : Layout) (R : List ℕ) where
       let n = choose causes 0 in
       cond (eqb n 0) (cond (is_counted_record S l R) (counted_in (firm_place_of S l R) (group_place_of S l R)) is_outside) (refused_by n)
 
-  -- Numbers of refusal, 11 to 17 with 31 after 13
+  -- Numbers of refusal, 11 to 17 with 31 after 13 and 33 after 17
   abbrev pub filing_of : Filing
   filing_of = filing_by (record_causes S l R)
 

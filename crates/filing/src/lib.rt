@@ -11,7 +11,7 @@ ghost use Rattle.filing.specs.Filing.{contract_taken, filed_meaning, filing_by, 
 
 use activity::{
     ACTIVITY_LENGTH, CONTRACT, CORRECTION_LENGTH, DAY, FIRM_CODE, GROUP_CODE, correction_fields,
-    is_activity, is_correction, is_sound,
+    is_activity, is_correction, is_sound, minimum_quantity_impossible,
 };
 use calendar::{has_day, in_effect};
 use contracts::{Status, contract_status};
@@ -77,7 +77,7 @@ fn status_at(schedule: &Schedule, at: usize, record: &[u8]) -> Status
     Status::Counted
 }
 
-// The causes 16 and 17, and whether the record is counted, where its firm and its group were found.
+// The causes 16, 17 and 33, and whether the record is counted, where its firm and its group were found.
 #[tactic(auto, unfolding(crate::specs::Filing::filing_by, contracts::specs::Counted::status_of, wire::specs::Choose::choose))]
 fn file_found(
     schedule: &Schedule,
@@ -92,22 +92,24 @@ fn file_found(
     if !has_day(schedule.layout.month, day) {
         return Err(Cause::NoSuchDay);
     }
-    match status_at(schedule, group.offset, record) {
-        Status::Unlisted => Err(Cause::UnlistedContract),
-        Status::Listed => Ok(Filed::Outside),
-        Status::Counted => {
-            if !in_effect(schedule.layout.month, schedule.layout.closed, day) {
-                return Ok(Filed::Outside);
-            }
-            Ok(Filed::At {
-                firm,
-                group: group.index,
-            })
-        }
+    let counted = match status_at(schedule, group.offset, record) {
+        Status::Unlisted => return Err(Cause::UnlistedContract),
+        Status::Listed => false,
+        Status::Counted => in_effect(schedule.layout.month, schedule.layout.closed, day),
+    };
+    if is_activity(record) & minimum_quantity_impossible(record) {
+        return Err(Cause::ImpossibleMinimum);
     }
+    if !counted {
+        return Ok(Filed::Outside);
+    }
+    Ok(Filed::At {
+        firm,
+        group: group.index,
+    })
 }
 
-// The causes 14 to 17, and whether the record is counted.
+// The causes 14 to 17 and 33, and whether the record is counted.
 #[tactic(auto, unfolding(crate::specs::Filing::filing_by, lookup::specs::Lookup::firm_found, lookup::specs::Lookup::group_found, wire::specs::Choose::choose, wire::specs::Lists::joined))]
 fn file_listed(schedule: &Schedule, record: &[u8]) -> Result<Filed, Cause>
     requires { 7 ≤ length «record».now }
@@ -122,7 +124,7 @@ fn file_listed(schedule: &Schedule, record: &[u8]) -> Result<Filed, Cause>
     file_found(schedule, record, firm, group)
 }
 
-// How the schedule takes a record: refused by one of 11 to 17 with 31 after 13, outside, or where its cell is.
+// How the schedule takes a record: refused by one of 11 to 17 with 31 after 13 and 33 after 17, outside, or where its cell is.
 #[tactic(auto, unfolding(crate::specs::Filing::filing_by, wire::specs::Choose::choose))]
 pub fn file(schedule: &Schedule, record: &[u8]) -> Result<Filed, Cause>
     ensures { filed_meaning result ≡ filing_of schedule.now.bytes.now schedule.now.layout «record».now }

@@ -1,6 +1,6 @@
 -- Demand 3 of the customer's letter, in the words of document 01 ("Demand 3 is a single claim about whole lists of posts") and of the calls,
--- bytes, scores and corrections as document 02, 2.1 to 2.3, has them. S is the schedule, any bytes; C a firm's code; rs a list of posts, any byte
--- strings, activity and corrections among them in any order.
+-- bytes, scores, corrections and refusals as document 02, 2.1 to 2.5, has them. S is the schedule, any bytes; C a firm's code; rs a list of posts,
+-- any byte strings, activity and corrections among them in any order.
 -- Proved in proofs/Demand3.antt: of every schedule and every firm that it lists.
 -- Assumes nothing.
 use Rattle.std.specs.Prelude.{ℕ, ◌+◌, ◌*◌, ◌≤◌, Bool, true, List, ◌≡◌, take, drop}

@@ -51,6 +51,8 @@ number_of cause.ShortOutput = 23
 -- 2.3: a correction's fields; its edition, or activity in a corrected cell
 number_of cause.Unsound = 31
 number_of cause.Superseded = 32
+-- 2.5: a record's minimum-quantity orders
+number_of cause.ImpossibleMinimum = 33
 
 -- Numbers of refusal, from 8 on: a cause has the offset 0
 abbrev pub at_front : Cause → Refusal

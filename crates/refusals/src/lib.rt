@@ -48,6 +48,8 @@ pub enum Cause {
     Unsound,
     // The edition isn't above the cell's, or the cell was corrected.
     Superseded,
+    // Activity has more minimum-quantity orders than new orders and FAK/FOK orders together.
+    ImpossibleMinimum,
 }
 
 impl Cause {
@@ -77,6 +79,7 @@ impl Cause {
             Cause::ShortOutput => 23,
             Cause::Unsound => 31,
             Cause::Superseded => 32,
+            Cause::ImpossibleMinimum => 33,
         }
     }
 }

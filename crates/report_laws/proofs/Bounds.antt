@@ -98,7 +98,7 @@ violations_most S l c = count_blocks (λ i. is_violation ((month_of S l c).verdi
     go i true e v = ltb-true _ _ e
     go i false e v = absurd (false≢true v)
 
--- a record has no line, or that of its first cause, of which 32 has the greatest number
+-- a record has no line, or that of its first cause, whose number has two digits at the most
 taking_most : (S : List ℕ) (l : Layout) (c : Cell) (R : List ℕ) → length (post_line (taking S l c R)) ≤ 11
 unfolding taking
 taking_most S l c R = go (eqb first 0) (is_counted_record S l R) (eqb second 0)
@@ -109,8 +109,8 @@ taking_most S l c R = go (eqb first 0) (is_counted_record S l R) (eqb second 0)
     second : ℕ
     second = choose (cell_causes c R) 0
 
-    most : (cs : List (Bool × ℕ)) → small (λ n. n) 32 cs ≡ true → length (post_line (refused (choose cs 0) 0)) ≤ 11
-    most cs e = refused_two (choose cs 0) (omega (arith, choose_most (λ n. n) 32 cs e zero-le))
+    most : (cs : List (Bool × ℕ)) → small (λ n. n) 99 cs ≡ true → length (post_line (refused (choose cs 0) 0)) ≤ 11
+    most cs e = refused_two (choose cs 0) (omega (arith, choose_most (λ n. n) 99 cs e zero-le))
 
     go : (x k y : Bool) → length (post_line (cond x (cond (not k) (good effect.Outside) (cond y (good effect.Counted) (refused second 0))) (refused first 0))) ≤ 11
     go true true true = zero-le

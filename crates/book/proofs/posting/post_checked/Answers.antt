@@ -18,7 +18,7 @@ use Rattle.book.proofs.Checked.{sized}
 use Rattle.book.proofs.Taken.{Admitted, admitted, admitted_inside}
 use Rattle.book.proofs.posting.post_checked.Goals as goal
 
--- a counted record has a firm and a group, and passed 11 to 17 and 31
+-- a counted record has a firm and a group, and passed 11 to 17, 31 and 33
 module _ (S : List ℕ) (l : Layout) (R : List ℕ) {t : Filed} {f g : ℕ} (known : filed_meaning (Ok t) ≡ filing_of S l R) (at : t ≡ filed.At f g) where
   placed : Located S l R (record_causes S l R) f g
   placed = located _ _ _ _ (sym (ap (λ x. filed_meaning (Ok x)) at) ∙ known)
