@@ -13,6 +13,7 @@ from mep_second import ALNUM, LIMIT, days_in, factor, le, per_firm_group, select
 TOP = 2 ** 32 - 1
 CELLS = 8_184 // per_firm_group()  # firm-groups that the book of mep-statement fits
 POSTED = {4: 44, 8: 32}  # kinds of records that are posted, with their lengths
+NEW, FAK_FOK, MINIMUM = 0, 3, 6  # places of these orders among a record's eight counts
 CORRECTED = .12  # share of the cells that are corrected
 # The editions of a cell's corrections: one, or two that rise, stay or fall.
 EDITIONS = ((1,), (1,), (1,), (2,), (TOP,), (1, 2), (1, 2), (TOP - 1, TOP), (1, 1), (TOP, TOP), (2, 1), (TOP, 1))
@@ -187,8 +188,8 @@ def split(r, counts):
     parts = []
     for _ in range(r.choice((0, 0, 1, 2))):
         part = [r.randint(0, n) for n in counts]
-        orders, minimum = part[0] + part[3], counts[6]
-        part[6] = r.randint(max(0, minimum - (counts[0] + counts[3] - orders)), min(minimum, orders))
+        orders, later = part[NEW] + part[FAK_FOK], counts[NEW] + counts[FAK_FOK] - part[NEW] - part[FAK_FOK]
+        part[MINIMUM] = r.randint(max(0, counts[MINIMUM] - later), min(counts[MINIMUM], orders))
         counts = [n - m for n, m in zip(counts, part)]
         parts.append(part)
     return parts + [counts]
@@ -295,7 +296,7 @@ def full_cell(r, month):
     """Records that fill one total of a cell to the limit or one below it, and then more; often with corrections."""
     g, place = r.choice(month.groups), r.choice((0, 1, 4, 6, 7))
     full = [LIMIT // 3] if place in (4, 6) else [TOP, TOP, LIMIT - 2 * TOP - r.randint(0, 1)]
-    filled = (0, 6) if place == 6 else (place,)  # with as many new orders as minimum-quantity orders
+    filled = (NEW, MINIMUM) if place == MINIMUM else (place,)  # minimum-quantity orders are among the new orders
     rows = [[n if j in filled else 0 for j in range(8)] for n in full]
     rows += [[0] * 8, [0, 1] + [0] * 6, [0] * 7 + [1], [0, 1] + [0] * 5 + [1], [r.randrange(TOP) for _ in range(8)]]
     code, day = r.choice(month.firms), r.choice(month.open_days())

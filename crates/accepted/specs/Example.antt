@@ -4,12 +4,12 @@
 -- activity; then (document 02, 2.5) impossible minimum quantities.
 -- Assumes nothing.
 use Rattle.std.specs.Prelude.{ℕ, ◌+◌, ◌*◌, List, [], ◌∷◌, ◌++◌, ◌≡◌, refl, drop}
-use Rattle.wire.specs.Bytes.{u16_at, u32_at}
+use Rattle.wire.specs.Bytes.{u16_at, u16_bytes, u32_at}
 use Rattle.wire.specs.Choose.{choose, all, seek_in}
 use Rattle.wire.specs.Lists.{joined, keep, table, put, over}
 use Rattle.wire.specs.Sums.{sum}
 use Rattle.calendar.specs.Calendar.{days_in}
-use Rattle.contracts.specs.Counted.{contract_listed, contract_counted, in_front, is_after, is_counted, contract_is}
+use Rattle.contracts.specs.Counted.{contract_listed, contract_counted, in_front, is_after, is_late, is_counted, contract_is}
 use Rattle.records.specs.Fields.{head_fields, head_ok, group_fields, group_in_range, is_letter, firm_fields, firm_ok, has_code}
 use Rattle.contracts.specs.Listing.{contracts_ok, contract_bad, before, contract, listed}
 use Rattle.lookup.specs.Lookup.{group_start, group_is, firm_is, group_listed, firm_listed}
@@ -28,6 +28,10 @@ use Rattle.accepted.specs.Samples.{head, group, ABC, firm, activity, correction_
 -- October 2019 with day 2 not in effect, ES and ABC
 abbrev schedule : List ℕ
 schedule = head 2 ++ group 69 83 1 ++ firm
+
+-- the same with a front mask, at 22, that leaves out December, so that its contract is listed and not counted
+abbrev uncounted : List ℕ
+uncounted = put 22 (u16_bytes 2047) schedule
 
 -- a record of ABC in ES, each count ten times the one before: 1 modification, then cancellations, FAK/FOK orders, mass action requests, mass action
 -- reports, minimum-quantity orders, new orders, lots
@@ -132,6 +136,8 @@ pub record Example : Type 0 where
   -- 2.5: a record is refused with one minimum-quantity order too many, on a day not in effect too, and taken with an equal number; 17 comes before; the
   -- sum of new orders and FAK/FOK orders does not wrap
   pub impossible : answers book minimums ≡ refused 33 0 ∷ good effect.Counted ∷ refused 33 0 ∷ refused 17 0 ∷ good effect.Counted ∷ []
+  -- it is refused too in a contract that is not counted
+  pub aside : post_answer uncounted book (orders 7 2 0 3 6) ∷ post_answer uncounted book (orders 7 2 0 3 5) ∷ [] ≡ refused 33 0 ∷ good effect.Outside ∷ []
   pub equal : accepted schedule minimums 0 0 7 ≡ record { raw = 5; score = 24; lots = 0 }
   -- a record that 33 refuses is its firm's own all the same
   pub owns : own ABC minimums ≡ minimums
@@ -143,7 +149,7 @@ pub record Example : Type 0 where
 pub example : Example
 unfolding accepted_cells posted taking totals_of correction_fields check_book check_of scan ending with_record cause is_repeated fields_ok is_full length_ok is_due kind_of
     firm_listed group_listed firm_is group_is group_start firm_ok firm_fields has_code group_in_range group_fields contracts_ok contract_bad before contract
-    listed head_ok head_fields is_letter contract_is is_counted is_after in_front contract_counted contract_listed days_in sum joined keep seek_in all choose u32_at
+    listed head_ok head_fields is_letter contract_is is_counted is_late is_after in_front contract_counted contract_listed days_in sum joined keep seek_in all choose u32_at
     u16_at
 example =
     record {
@@ -160,6 +166,7 @@ example =
       replaced = refl;
       refusals = refl;
       impossible = refl;
+      aside = refl;
       equal = refl;
       owns = refl;
       stands = refl;

@@ -1,5 +1,6 @@
--- An activity record's fields, whether its counts can be, and what it adds to its cell (document 01, "Records", kind 4, and "The day's verdict";
--- document 02, 2.2 and 2.5; the Program, section 2). R is the whole record. Where a correction has its firm, day and group (document 02, 2.3) is said here too.
+-- An activity record's fields, whether its minimum quantities are possible, and what it adds to its cell (document 01, "Records", kind 4, and "The
+-- day's verdict"; document 02, 2.2 and 2.5; the Program, section 2). R is the whole record. Where a correction has its firm, day and group (document
+-- 02, 2.3) is said here too.
 -- Assumes nothing.
 use Rattle.std.specs.Prelude.{ℕ, ◌+◌, ◌*◌, Bool, List, [], ◌∷◌, eqb, ltb, get_or, take, drop}
 use Rattle.wire.specs.Bytes.{u16_at, u32_at}

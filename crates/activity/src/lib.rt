@@ -1,5 +1,5 @@
-// The posted records. Here the activity record: its kind, its length, where its fields stand, whether its counts can be, and what it adds
-// to its cell.
+// The posted records. Here the activity record: its kind, its length, where its fields stand, whether its minimum quantities are possible,
+// and what it adds to its cell.
 #![tactic(auto)]
 
 mod correction;
