@@ -6,10 +6,10 @@
 import random
 import sys
 
-from make_cases import Script, activity, correction, firm, group, head
+from make_cases import Script, activity, correction, firm, grant, group, head
 from make_months import (CELLS, POSTED, TOP, codes, day_totals, dense_month, full_cell, odd_record, other_totals, put_in,
                          quiet_month, random_group, shape, trade, whole_month)
-from mep_second import LIMIT, le, output_need, per_firm_group, width
+from mep_second import LIMIT, days_in, le, output_need, per_firm_group, width
 
 ROOM = 65_536           # bytes that mep-statement takes
 SCRIPT_ROOM = 262_144   # bytes of a script that cases takes
@@ -275,8 +275,24 @@ def spoil(r, script, month, size):
         script.post(record)
 
 
+def grants_of(r, month):
+    """Grants of the month's cells: of few, of most of one firm's or of every firm's; now and then one that 34 or 35 refuses."""
+    share = r.choice((.02, .02, .3, 1))
+    named = [grant(code, day, g.code) for code in r.sample(month.firms, r.randint(1, min(3, len(month.firms))))
+             for g in month.groups for day in month.open_days() if r.random() < share]
+    named += [grant(r.choice(month.firms), r.choice(month.closed_days()), r.choice(month.groups).code) for _ in range(r.choice((0, 0, 2)))]
+    r.shuffle(named)
+    if r.random() < .15:
+        code, name = month.firms[0], month.groups[0].code
+        odd = r.choice((grant(code, 0, name), grant(code, days_in(month.number) + 1, name), grant(code, 1, b"a0"), grant(b"a0A", 1, name),
+                        grant(code, 1, name, size=r.choice((9, 11))), grant(code, 1, name, kind=r.choice((8, 265))),
+                        grant(code, 1, name)[:r.randint(1, 9)]))
+        named.insert(r.choice((r.randint(0, len(named)), len(named))), odd)
+    return b"".join(named)
+
+
 def month_calls(r):
-    """One month as calls: open, posts, statements into outputs of many sizes; then verdicts."""
+    """One month as calls: open, posts, statements with grants or none into outputs of many sizes; then verdicts."""
     month = dense_month(r) if r.random() < .05 else whole_month(r, r.choice((1_000, 5_000, 12_000)))
     if r.random() < .2:
         put_in(r, month.activity, full_cell(r, month))
@@ -293,6 +309,7 @@ def month_calls(r):
         spoil(r, script, month, size)
     script.digest()
     for code in r.sample(month.firms, min(3, len(month.firms))):
+        script.grants(r.choice((b"", grants_of(r, month), grants_of(r, month))))
         for room in (r.randrange(output_need(40)), output_need(r.randrange(30)) - r.randint(0, 1), output_need(992)):
             script.statement(r.choice((code,) * 9 + (code[:2], code + b"A", b"", b"abc")), room)
     for _ in range(20):

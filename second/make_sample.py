@@ -4,7 +4,7 @@
     make_sample.py > samples/october-2019.bin
     mep_second.py < samples/october-2019.bin > samples/october-2019.txt
 
-It shows all four marks, both exchange groupings, a correction, refused records and records that lie outside. The same bytes
+It shows the four marks of a month without grants, both exchange groupings, a correction, refused records and records that lie outside. The same bytes
 come out every time.
 """
 import sys

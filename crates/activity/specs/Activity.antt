@@ -1,6 +1,6 @@
 -- An activity record's fields, whether its minimum quantities are possible, and what it adds to its cell (document 01, "Records", kind 4, and "The
--- day's verdict"; document 02, 2.2 and 2.5; the Program, section 2). R is the whole record. Where a correction has its firm, day and group (document
--- 02, 2.3) is said here too.
+-- day's verdict"; document 02, 2.2 and 2.5; the Program, section 2). R is the whole record. Where corrections (document
+-- 02, 2.3) and grants (2.6) have their firm, day and group is said here too.
 -- Assumes nothing.
 use Rattle.std.specs.Prelude.{ℕ, ◌+◌, ◌*◌, Bool, List, [], ◌∷◌, eqb, ltb, get_or, take, drop}
 use Rattle.wire.specs.Bytes.{u16_at, u32_at}
@@ -18,15 +18,15 @@ activity_length = 44
 abbrev pub is_activity : (R : List ℕ) → Bool
 is_activity R = eqb (kind_at R 0) activity_kind
 
--- Records, kind 4, and 2.3, kind 8: firm at 4
+-- Records, kind 4, and 2.3, kind 8, and 2.6, kind 9: firm at 4
 abbrev pub firm_code : (R : List ℕ) → List ℕ
 firm_code R = take 3 (drop 4 R)
 
--- Records, kind 4, and 2.3, kind 8: day u8 at 7
+-- Records, kind 4, and 2.3, kind 8, and 2.6, kind 9: day u8 at 7
 abbrev pub day : (R : List ℕ) → ℕ
 day R = get_or R 7 0
 
--- Records, kind 4, and 2.3, kind 8: group at 8, two letters
+-- Records, kind 4, and 2.3, kind 8, and 2.6, kind 9: group at 8, two letters
 abbrev pub group_code : (R : List ℕ) → List ℕ
 group_code R = get_or R 8 0 ∷ get_or R 9 0 ∷ []
 

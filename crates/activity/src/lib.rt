@@ -16,7 +16,7 @@ const ACTIVITY_KIND: u16 = 4;
 
 pub const ACTIVITY_LENGTH: usize = 44;
 
-// A correction has its firm, day and group at the same places.
+// A correction and a grant have their firm, day and group at the same places.
 pub const FIRM_CODE: usize = 4;
 
 pub const DAY: usize = 7;

@@ -33,6 +33,10 @@ pub(crate) enum Command<'a> {
         firm: &'a [u8],
         size: usize,
     },
+    // G: the grants of the statements that follow.
+    Grants {
+        bytes: &'a [u8],
+    },
     // V: the verdict on a day's raw count, score, lots and benchmark.
     Verdict {
         raw: u64,
@@ -67,6 +71,9 @@ fn read_command<'a>(script: &mut Script<'a>) -> Result<Command<'a>, Stop>
         b'T' => Command::Statement {
             firm: script.piece(),
             size: script.u32() as usize,
+        },
+        b'G' => Command::Grants {
+            bytes: script.piece(),
         },
         b'V' => Command::Verdict {
             raw: script.u64(),

@@ -11,19 +11,21 @@ const UNTOUCHED: u64 = 7;
 
 const UNTOUCHED_BYTE: u8 = 165;
 
-// The schedule of the calls; the numbers for a book, and how many of them the book has.
+// The schedule and the grants of the calls; the numbers for a book, and how many of them the book has.
 #[derive(Drop)]
 pub(crate) struct Runner<'s, 'b> {
     schedule: &'s [u8],
+    grants: &'s [u8],
     book: &'b mut [u64],
     numbers: usize,
 }
 
 impl<'s, 'b> Runner<'s, 'b> {
-    // A runner with no schedule yet, and with no number in its book.
+    // A runner with no schedule and no grants yet, and with no number in its book.
     pub(crate) fn new(book: &'b mut [u64]) -> Self {
         Runner {
             schedule: &[],
+            grants: &[],
             book,
             numbers: 0,
         }
@@ -53,7 +55,8 @@ impl<'s, 'b> Runner<'s, 'b> {
     fn print_statement(&mut self, rt: &impl Print, firm: &[u8], size: usize) -> Result<(), Stop> {
         let mut output = [UNTOUCHED_BYTE; LARGEST];
         let out = output.get_mut(..size).ok_or(Stop::OutputTooLarge)?;
-        let answer = statement(self.schedule, self.held(), firm, out);
+        let grants = self.grants;
+        let answer = statement(self.schedule, self.held(), firm, grants, out);
         print_stated(rt, answer, out);
         Ok(())
     }
@@ -73,6 +76,7 @@ impl<'s, 'b> Runner<'s, 'b> {
                     post(self.schedule, self.held(), record).map(effect_word),
                 );
             }
+            Command::Grants { bytes } => self.grants = bytes,
             Command::Statement { firm, size } => self.print_statement(rt, firm, size)?,
             Command::Verdict {
                 raw,

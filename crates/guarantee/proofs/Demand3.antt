@@ -1,8 +1,8 @@
--- Demand 3. From an opened book a listed firm's cells are its accepted totals, which fit, so that only 23 can refuse its statement: the bytes
--- are those of the month after the list. Their totals are read back as they were written, each number being small enough; the rules' laws add
--- them up; and the firm's own posts alone make its accepted totals.
-use Prim.Native.Nat.{ℕ, ◌+◌, ◌*◌, ◌≤◌, ◌<◌}
-use mathlib.Core.Bool.{Bool, true, false, not, ◌&&◌, and-true, and-false}
+-- Demand 3. From an opened book a listed firm's cells are its accepted totals, which fit, so that only its grants and 23 can refuse its statement: the
+-- bytes are those of the month after the list. Their totals are read back as they were written, each number being small enough; the rules' laws add
+-- them up; and the firm's own posts alone make its accepted totals. What 34 and 35 say of grants goes by the schedule alone.
+use Prim.Native.Nat.{ℕ, zero, suc, ◌+◌, ◌*◌, ◌≤◌, ◌<◌}
+use mathlib.Core.Bool.{Bool, true, false, not, ◌&&◌, and-true, and-false, false≢true}
 use mathlib.Core.List.{List, [], ◌++◌, append_assoc}
 use mathlib.Core.Logic.{⊎_elim}
 use mathlib.Core.Path.{◌≡◌, refl, sym, ap, ap₂, subst, ◌∙◌}
@@ -12,7 +12,7 @@ use lib.ListN.{length, take, drop, length-append}
 use lib.Seq.{take_at, drop_at}
 use borrow.Author.Tests.{ltb-true}
 use Rattle.wire.specs.Bytes.{u16_at, u32_at, u16_bytes}
-use Rattle.wire.specs.Choose.{within}
+use Rattle.wire.specs.Choose.{choose, seek_in, within}
 use Rattle.wire.specs.Lists.{over}
 use Rattle.wire.specs.Sums.{bit, count}
 use Rattle.wire.proofs.Bytes.{u16_again, u32_again}
@@ -21,13 +21,15 @@ use Rattle.wire.proofs.Sums.{sum_same, sum_add, count_most}
 use Rattle.calendar.specs.Calendar.{days_in}
 use Rattle.rules.specs.Verdict.{version96, is_violation}
 use Rattle.rules.specs.Month.{DailyTotals}
-use Rattle.rules.specs.Marks.{places, day_of, group_of, Judged, is_billed, mark, violations, marked, billed, amount}
+use Rattle.rules.specs.Marks.{places, day_of, group_of, Judged, is_billed, granted_mark, mark_before, mark, violations, marked, billed, amount}
 use Rattle.rules.specs.Laws.{Laws}
+use Rattle.rules.proofs.Bills.{none_granted}
 use Rattle.rules.proofs.Laws.{falling96, laws as rules_laws}
 use Rattle.refusals.specs.Outcome.{Outcome, refused, good, follow}
 use Rattle.std.specs.Prelude.{Some}
 use Rattle.lookup.specs.Lookup.{group_at, firm_place, firm_listed, firm_found}
 use Rattle.schedule.specs.Check.{check_of}
+use Rattle.lookup.specs.InForce.{rules_of}
 use Rattle.lookup.specs.declared.Layout.{Layout}
 use Rattle.schedule.proofs.Good.{refused-good}
 use Rattle.cell.specs.Cell.{FirmCells, cell_totals}
@@ -35,15 +37,21 @@ use Rattle.book.specs.Book.{size, check_book, open_answer, open_book}
 use Rattle.accepted.specs.Accepted.{accepted_cells, accepted, own, of_bytes, posted}
 use Rattle.book.proofs.Checked.{Sized, sized, book-good}
 use Rattle.accepted.proofs.Laws.{laws as book_laws}
-use Rattle.month.specs.Month.{terms, month_of, any_excess, firm_cells, firm_month, month_answer}
+use Rattle.month.specs.Month.{terms, month_of, any_excess, firm_cells, month_answer}
 use Rattle.month.specs.Parts.{ListedAt, Grouped}
 use Rattle.month.proofs.Answers.{is_judged}
 use Rattle.month.proofs.Waivers.{month_grouped, one_or_two}
-use Rattle.statement.specs.Layout.{line_size, totals_size, both_totals, violations_at, monthly_at, automatic_at, billed_at, totals_violations, totals_monthly, totals_automatic, totals_billed}
+use Rattle.grants.specs.Grants.{grants_causes, granted}
+use Rattle.grants.specs.Month.{granted_month, granted_answer}
+use Rattle.grants.proofs.Answers.{ComesTo, taken, by_34, by_35, comes_to, none-refused, is_34_35, is_taken}
+use Rattle.statement.specs.Layout.{line_size, totals_size, both_totals, violations_at, monthly_at, automatic_at, granted_at, billed_at}
+use Rattle.statement.specs.Layout.{totals_violations, totals_monthly, totals_automatic, totals_granted, totals_billed}
 use Rattle.statement.specs.Lines.{totals_bytes, lines, having, tally, shown}
 use Rattle.statement.specs.Statement.{statement_bytes, need, statement_answer, statement_output}
+use Rattle.statement.proofs.Answers.{is-refused}
 use Rattle.statement.proofs.Shown.{lines_length, mark_some, marks-count, bytes-length}
-use Rattle.guarantee.specs.Demand3.{layout, is_listed, totals_after, month_after, amount_after, Run, output_of, Falls, TotalsAre, after_lines, AddsUp, DollarsFall, SameBytes, Demand3}
+use Rattle.guarantee.specs.Demand3.{layout, is_listed, totals_after, month_after, amount_after, Run, answer_of, output_of, month, amount_of, GrantsTaken, Falls}
+use Rattle.guarantee.specs.Demand3.{SameGrants, TotalsAre, after_lines, AddsUp, DollarsFall, SameStatement, Demand3, SameBytes, WithoutGrants}
 
 laws96 : Laws version96
 laws96 = rules_laws version96 falling96
@@ -74,16 +82,18 @@ module _ (ys : List ℕ) (e : ℕ) (j : Judged) where
       let v : totals_violations totals ≡ violations j e = such_there violations_at (λ m. not (eqb m 0)) refl ∙ such_violations in
       let m : totals_monthly totals ≡ marked version96 j e 3 = such_there monthly_at (λ m. eqb m 3) refl in
       let a : totals_automatic totals ≡ marked version96 j e 4 = such_there automatic_at (λ m. eqb m 4) refl in
+      let g : totals_granted totals ≡ marked version96 j e 5 = such_there granted_at (λ m. eqb m 5) refl in
       let b : totals_billed totals ≡ billed version96 j e = such_there billed_at is_billed refl in
       record {
         length = refl;
         kind = refl;
         grouping = refl;
         zero = refl;
-        adds = v ∙ laws96.adds_up j e ∙ sym (ap₂ ◌+◌ (ap₂ ◌+◌ m a) b);
+        adds = v ∙ laws96.adds_up j e ∙ sym (ap₂ ◌+◌ (ap₂ ◌+◌ (ap₂ ◌+◌ m a) g) b);
         violations_are = v;
         monthly_are = m;
         automatic_are = a;
+        granted_are = g;
         billed_are = b;
         dollars_are = u32_again (amount version96 j e) [] (amount_small j e);
       }
@@ -136,16 +146,16 @@ module _ (S : List ℕ) (l : Layout) (j : Judged) (grouped : Grouped j) where
       (length-append front (totals_of 1) ∙ ap (λ (n : ℕ). n + totals_size) lines_end)
 
 -- what a statement of the month j comes to that nothing refuses
-pub record Written (S B C out : List ℕ) (l : Layout) (j : Judged) : Type 0 where
-  pub answer : statement_answer S B C out ≡ good (length (statement_bytes S l j))
-  pub output : statement_output S B C out ≡ over (statement_bytes S l j) out
+pub record Written (S B C G out : List ℕ) (l : Layout) (j : Judged) : Type 0 where
+  pub answer : statement_answer S B C G out ≡ good (length (statement_bytes S l j))
+  pub output : statement_output S B C G out ≡ over (statement_bytes S l j) out
 
--- where 1 to 8, 21 and 22 do not refuse, the statement is written, if 23 does not
-module _ (S B C out : List ℕ) (l : Layout) (judged : month_answer S B C ≡ good l) where
-  written : (statement_answer S B C out ≡ refused 23 0 → ⊥) → Written S B C out l (firm_month S B C l)
-  written enough = go (ltb (length out) (need (firm_month S B C l))) refl
+-- where 1 to 8, 21, 22, 34 and 35 do not refuse, the statement is written, if 23 does not
+module _ (S B C G out : List ℕ) (l : Layout) (judged : granted_answer S B C G ≡ good l) where
+  written : (statement_answer S B C G out ≡ refused 23 0 → ⊥) → Written S B C G out l (granted_month S B C G l)
+  written enough = go (ltb (length out) (need (granted_month S B C G l))) refl
     where
-      go : (b : Bool) → ltb (length out) (need (firm_month S B C l)) ≡ b → Written S B C out l (firm_month S B C l)
+      go : (b : Bool) → ltb (length out) (need (granted_month S B C G l)) ≡ b → Written S B C G out l (granted_month S B C G l)
       go true t = absurd (enough (rw (judged, t)))
       go false t = record { answer = rw (judged, t); output = rw (judged, t) }
 
@@ -192,67 +202,166 @@ module _ (S C : List ℕ) (l : Layout) (e : check_of S ≡ good l) where
         = record { checked = book-good S (length after) e (rw (book_laws S e).kept room); listed = listed; place = refl } in
         is_judged S after C l (firm_place S l C) at (ap (any_excess l) held ∙ no_excess rs bytes (firm_place S l C))
 
-    -- and its statement is that of its accepted totals
-    stated : (out : List ℕ) → (statement_answer S after C out ≡ refused 23 0 → ⊥) → Written S after C out l (month_of S l (accepted S rs (firm_place S l C)))
-    stated out enough = subst (λ (c : FirmCells). Written S after C out l (month_of S l (cell_totals c))) held (written S after C out l judged_after enough)
+    module _ (G out : List ℕ) where
+      -- grants that 34 or 35 refuses refuse its statement
+      not_taken : {n : ℕ} → choose (grants_causes S l G) 0 ≡ n → (n ≡ 0 → ⊥) → statement_answer S after C G out ≡ refused n 0
+      not_taken c z = sym (is-refused S after C G out (is_34_35 S after C G judged_after c z)).answer
+
+      -- else it is that of its accepted totals and its grants
+      stated : choose (grants_causes S l G) 0 ≡ 0 → (statement_answer S after C G out ≡ refused 23 0 → ⊥)
+          → Written S after C G out l (month_of S l (accepted S rs (firm_place S l C)) (granted S l C G))
+      stated c enough =
+          subst (λ (x : FirmCells). Written S after C G out l (month_of S l (cell_totals x) (granted S l C G))) held
+          (written S after C G out l (is_taken S after C G judged_after c) enough)
+
+-- what is good is one thing
+good_is : {m n : ℕ} → good m ≡ good n → m ≡ n
+good_is e = cc
 
 -- the bytes of a firm's statement after a list
-abbrev bytes_after : (S C : List ℕ) → (rs : List (List ℕ)) → List ℕ
-bytes_after S C rs = statement_bytes S (layout S) (month_after S C rs)
+abbrev bytes_after : (S C : List ℕ) → (rs : List (List ℕ)) → (G : List ℕ) → List ℕ
+bytes_after S C rs G = statement_bytes S (layout S) (month_after S C rs G)
 
 module _ (S C : List ℕ) (listed : is_listed S C ≡ true) where
-  -- its statement after a list is that of its accepted totals
-  pub run : (p : Run S C) → Written S (posted S (open_book S p.book) p.posts) C p.output (layout S) (month_after S C p.posts)
-  run p =
+  -- what its grants come to
+  abbrev cause_of : Run S C → ℕ
+  cause_of p = choose (grants_causes S (layout S) p.grants) 0
+
+  -- grants with a cause refuse its statement
+  refused_by : (p : Run S C) {n : ℕ} → cause_of p ≡ n → (n ≡ 0 → ⊥) → answer_of S C p ≡ refused n 0
+  refused_by p c z =
       let s = opens S p.book p.opened in
-      stated S C (layout S) s.schedule p.book p.posts p.bytes listed p.opened s.room p.output p.enough
+      not_taken S C (layout S) s.schedule p.book p.posts p.bytes listed p.opened s.room p.grants p.output c z
+
+  -- else, after a list, it is that of its accepted totals and its grants
+  pub run : (p : Run S C) → cause_of p ≡ 0 → Written S (posted S (open_book S p.book) p.posts) C p.grants p.output (layout S) (month S C p)
+  run p c =
+      let s = opens S p.book p.opened in
+      stated S C (layout S) s.schedule p.book p.posts p.bytes listed p.opened s.room p.grants p.output c p.enough
+
+  -- grants that are taken have no cause
+  pub no_cause : (p : Run S C) → GrantsTaken S C p → cause_of p ≡ 0
+  no_cause p t = go refl (comes_to S (layout S) p.grants)
+    where
+      go : {n : ℕ} → cause_of p ≡ n → ComesTo n → cause_of p ≡ 0
+      go e taken = e
+      go e by_34 = absurd (t.not_34 (refused_by p e (λ z. omega (arith, z))))
+      go e by_35 = absurd (t.not_35 (refused_by p e (λ z. omega (arith, z))))
+
+  -- and no others have none
+  no_cause_taken : (p : Run S C) → cause_of p ≡ 0 → GrantsTaken S C p
+  no_cause_taken p c =
+      record { not_34 = λ e. refused-good (sym e ∙ (run p c).answer); not_35 = λ e. refused-good (sym e ∙ (run p c).answer) }
 
   -- what it leaves behind its bytes
   abbrev rest : Run S C → List ℕ
-  rest p = drop (length (bytes_after S C p.posts)) p.output
+  rest p = drop (length (bytes_after S C p.posts p.grants)) p.output
 
-  added : (p : Run S C) → AddsUp S C p
-  added p =
+  added : (p : Run S C) → cause_of p ≡ 0 → AddsUp S C p
+  added p c =
       let s = opens S p.book p.opened in
-      let j : Judged = month_after S C p.posts in
+      let j : Judged = month S C p in
       let grouped : Grouped j = λ i h. month_grouped S s.schedule (totals_after S C p.posts) i in
       record {
-        answered = (run p).answer ∙ ap good (bytes_end S (layout S) j grouped);
-        first = rw (run p).output (first-totals S (layout S) j grouped (rest p));
-        second = rw (run p).output (second-totals S (layout S) j grouped (rest p));
+        answered = (run p c).answer ∙ ap good (bytes_end S (layout S) j grouped);
+        first = rw (run p c).output (first-totals S (layout S) j grouped (rest p));
+        second = rw (run p c).output (second-totals S (layout S) j grouped (rest p));
       }
 
-  bytes_first : (p : Run S C) (n : ℕ) → length (bytes_after S C p.posts) ≡ n → take n (output_of S C p) ≡ bytes_after S C p.posts
-  bytes_first p n e = ap (take n) (run p).output ∙ take_at (bytes_after S C p.posts) (rest p) n e
+  bytes_first : (p : Run S C) (n : ℕ) → cause_of p ≡ 0 → length (bytes_after S C p.posts p.grants) ≡ n
+      → take n (output_of S C p) ≡ bytes_after S C p.posts p.grants
+  bytes_first p n c e = ap (take n) (run p c).output ∙ take_at (bytes_after S C p.posts p.grants) (rest p) n e
 
-  same : (p q : Run S C) → own C p.posts ≡ own C q.posts → SameBytes S C p q
-  same p q h =
-      let laws = book_laws S (opens S p.book p.opened).schedule in
-      let alike : totals_after S C p.posts ≡ totals_after S C q.posts =
-      ap cell_totals (laws.own_only C _ p.posts q.posts (place_found S C (layout S) listed) h) in
-      let e : bytes_after S C p.posts ≡ bytes_after S C q.posts = ap (λ (c : DailyTotals). statement_bytes S (layout S) (month_of S (layout S) c)) alike in
-      record {
-        written = length (bytes_after S C p.posts);
-        first = (run p).answer;
-        second = (run q).answer ∙ ap (λ (bs : List ℕ). good (length bs)) (sym e);
-        bytes = bytes_first p _ refl ∙ e ∙ sym (bytes_first q _ (ap length (sym e)));
-      }
+  module _ (p q : Run S C) (h : own C p.posts ≡ own C q.posts) (g : p.grants ≡ q.grants) where
+    bytes_same : bytes_after S C p.posts p.grants ≡ bytes_after S C q.posts q.grants
+    bytes_same =
+        let laws = book_laws S (opens S p.book p.opened).schedule in
+        let alike : totals_after S C p.posts ≡ totals_after S C q.posts =
+        ap cell_totals (laws.own_only C _ p.posts q.posts (place_found S C (layout S) listed) h) in
+        ap₂ (λ (c : DailyTotals) (G : List ℕ). statement_bytes S (layout S) (month_of S (layout S) c (granted S (layout S) C G))) alike g
 
-  lighter : (p q : Run S C) → Falls S C p.posts q.posts → (e : ℕ) → amount_after S C q.posts e ≤ amount_after S C p.posts e
-  lighter p q = laws96.lighter_amount (terms S (layout S)) (totals_after S C q.posts) (totals_after S C p.posts)
+    cause_same : cause_of q ≡ cause_of p
+    cause_same = ap (λ (G : List ℕ). choose (grants_causes S (layout S) G) 0) (sym g)
 
-  dollars_fall : (p q : Run S C) → Falls S C p.posts q.posts → DollarsFall S C p q
-  dollars_fall p q h =
-      record {
-        first = rw ((added q).first.dollars_are, (added p).first.dollars_are) (lighter p q h 1);
-        second = rw ((added q).second.dollars_are, (added p).second.dollars_are) (lighter p q h 2);
-      }
+    same_bytes : cause_of p ≡ 0 → SameBytes S C p q
+    same_bytes c =
+        record {
+          written = length (bytes_after S C p.posts p.grants);
+          first = (run p c).answer;
+          second = (run q (cause_same ∙ c)).answer ∙ ap (λ (bs : List ℕ). good (length bs)) (sym bytes_same);
+          bytes = bytes_first p _ c refl ∙ bytes_same ∙ sym (bytes_first q _ (cause_same ∙ c) (ap length (sym bytes_same)));
+        }
+
+    same_statement : SameStatement S C p q
+    same_statement = go (cause_of p) refl
+      where
+        taken_both : SameBytes S C p q → SameStatement S C p q
+        taken_both b =
+            record {
+              answer = b.first ∙ sym b.second;
+              bytes = λ n e. subst (λ (n : ℕ). take n (output_of S C p) ≡ take n (output_of S C q)) (good_is (sym b.first ∙ e)) b.bytes;
+            }
+
+        refused_both : (n : ℕ) → cause_of p ≡ n → (n ≡ 0 → ⊥) → SameStatement S C p q
+        refused_both n e z =
+            let r = refused_by p e z in
+            record { answer = r ∙ sym (refused_by q (cause_same ∙ e) z); bytes = λ w a. absurd (refused-good (sym r ∙ a)) }
+
+        go : (n : ℕ) → cause_of p ≡ n → SameStatement S C p q
+        go zero e = taken_both (same_bytes e)
+        go (suc n) e = refused_both (suc n) e (λ z. cc)
+
+  module _ (p q : Run S C) (h : Falls S C p.posts q.posts) (g : SameGrants S C p q) where
+    lighter : (e : ℕ) → amount_of S C q e ≤ amount_of S C p e
+    lighter e =
+        let falls = laws96.lighter_amount (terms S (layout S)) (totals_after S C q.posts) (totals_after S C p.posts) in
+        subst (λ (G : List ℕ). amount_after S C q.posts G e ≤ amount_of S C p e) g.same (falls (granted S (layout S) C p.grants) h g.none_severe e)
+
+    lighter_dollars : DollarsFall S C p q
+    lighter_dollars =
+        let c = no_cause p g.taken in
+        let d : cause_of q ≡ 0 = ap (λ (G : List ℕ). choose (grants_causes S (layout S) G) 0) (sym g.same) ∙ c in
+        record {
+          first = rw ((added q d).first.dollars_are, (added p c).first.dollars_are) (lighter 1);
+          second = rw ((added q d).second.dollars_are, (added p c).second.dollars_are) (lighter 2);
+        }
 
 pub demand3 : (S C : List ℕ) → is_listed S C ≡ true → Demand3 S C
 demand3 S C listed =
     record {
       falls = lighter S C listed;
-      dollars_fall = dollars_fall S C listed;
-      adds_up = added S C listed;
-      own_only = same S C listed;
+      dollars_fall = lighter_dollars S C listed;
+      adds_up = λ p t. added S C listed p (no_cause S C listed p t);
+      own_only = same_statement S C listed;
     }
+
+-- no grants are taken, and name no place
+module _ (S C : List ℕ) (listed : is_listed S C ≡ true) where
+  none_named : (i : ℕ) → granted S (layout S) C [] i ≡ false
+  unfolding seek_in
+  none_named i = refl
+
+  none-cause : (p : Run S C) → p.grants ≡ [] → cause_of S C listed p ≡ 0
+  none-cause p e = ap (λ (G : List ℕ). choose (grants_causes S (layout S) G) 0) e ∙ none-refused S (layout S)
+
+  not_granted : (p : Run S C) → p.grants ≡ [] → (i : ℕ) → (month S C p).granted i ≡ false
+  not_granted p e i = ap (λ (G : List ℕ). granted S (layout S) C G i) e ∙ none_named i
+
+  same_none : (p q : Run S C) → p.grants ≡ [] → q.grants ≡ [] → SameGrants S C p q
+  same_none p q e f =
+      record {
+        same = e ∙ sym f;
+        taken = no_cause_taken S C listed p (none-cause p e);
+        none_severe = λ i l g. absurd (false≢true (sym (not_granted p e i) ∙ g));
+      }
+
+  pub without_grants : WithoutGrants S C
+  without_grants =
+      record {
+        marks = λ p e i. ap (λ (b : Bool). granted_mark b (mark_before (rules_of S) (month S C p) i)) (not_granted p e i);
+        none_granted = λ p e f. none_granted (rules_of S) (month S C p) f (not_granted p e);
+        falls = λ p q e f h. lighter S C listed p q h (same_none p q e f);
+        dollars_fall = λ p q e f h. lighter_dollars S C listed p q h (same_none p q e f);
+        adds_up = λ p e. added S C listed p (none-cause p e);
+        own_only = λ p q e f h. same_bytes S C listed p q h (e ∙ sym f) (none-cause p e);
+      }

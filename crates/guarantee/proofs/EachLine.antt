@@ -26,9 +26,9 @@ use Rattle.statement.specs.Layout.{line_size}
 use Rattle.statement.specs.Lines.{first_letter, second_letter, line_bytes, line_at, lines, tally, totals_bytes, shown}
 use Rattle.statement.specs.Statement.{statement_bytes}
 use Rattle.statement.proofs.Shown.{line_some, lines_length, mark_some}
-use Rattle.guarantee.specs.Demand3.{layout, is_listed, month_after}
+use Rattle.guarantee.specs.Demand3.{layout, is_listed, month}
 use Rattle.guarantee.specs.EachLine.{LineIs, line_shown, cell_verdict, EachLine}
-use Rattle.guarantee.proofs.Demand3.{run}
+use Rattle.guarantee.proofs.Demand3.{run, no_cause}
 
 -- the line of place i of a month j
 module _ (S : List ℕ) (l : Layout) (j : Judged) (i : ℕ) where
@@ -101,10 +101,10 @@ judged_there true v e = refl
 judged_there false v e = absurd (false≢true e)
 
 pub each_line : (S C : List ℕ) → is_listed S C ≡ true → EachLine S C
-each_line S C listed p i h v =
+each_line S C listed p t i h v =
     let l = layout S in
-    let j : Judged = month_after S C p.posts in
+    let j : Judged = month S C p in
     let cell : j.verdict i ≡ cell_verdict S C p i
     = judged_there (ltb (group_of i) l.groups && (terms S l).in_effect (day_of i)) (cell_verdict S C p i) v in
     subst (λ (v : Verdict). LineIs version96 (line_shown S C p i) (day_of i) (group_at S l (group_of i)) (mark version96 j i) v) cell
-    (rw (run S C listed p).output (line_read S l j i h v (drop (length (statement_bytes S l j)) p.output)))
+    (rw (run S C listed p (no_cause S C listed p t)).output (line_read S l j i h v (drop (length (statement_bytes S l j)) p.output)))

@@ -1,8 +1,9 @@
--- Computed examples: the statement of document 01's whole run, byte by byte (its lines are those of document 02, 2.1), and one that has all four marks,
--- all three tiers and both exchange groupings; a month in which traffic falls and the amount with it; one that shows why demand 3 asks that no
--- raw count above zero becomes zero; and (document 02, 2.3) one whose amount rises by activity and falls by a correction.
+-- Computed examples: the statement of document 01's whole run, byte by byte (its lines are those of document 02, 2.1), and one that has all four marks
+-- of document 01, all three tiers and both exchange groupings; a month in which traffic falls and the amount with it; one that shows why demand 3 asks
+-- that no raw count above zero becomes zero; (document 02, 2.3) one whose amount rises by activity and falls by a correction; and (2.6) the run's
+-- statement with grants, and two pairs of months that show why demand 3 asks that the grants are the same and name no severe day.
 -- Assumes nothing.
-use Rattle.std.specs.Prelude.{ℕ, ◌+◌, ◌*◌, Bool, ◌&&◌, ◌||◌, List, [], ◌∷◌, ◌++◌, ◌≡◌, refl, leb, ltb}
+use Rattle.std.specs.Prelude.{ℕ, ◌+◌, ◌*◌, Bool, ◌&&◌, ◌||◌, List, [], ◌∷◌, ◌++◌, ◌≡◌, refl, leb, ltb, take}
 use Rattle.wire.specs.Bytes.{u16_at, u32_at}
 use Rattle.wire.specs.Choose.{choose, all, seek_in}
 use Rattle.wire.specs.Lists.{joined, table}
@@ -24,6 +25,8 @@ use Rattle.book.specs.Post.{taking}
 use Rattle.accepted.specs.Accepted.{accepted_cells, posted}
 use Rattle.accepted.specs.Samples.{head, group, ABC, firm, activity, correction}
 use Rattle.month.specs.Month.{any_excess, month_answer}
+use Rattle.grants.specs.Month as months
+use Rattle.grants.specs.Example.{grant}
 use Rattle.statement.specs.Lines.{line_at, tally, shown}
 use Rattle.statement.specs.Statement.{statement_answer, statement_output}
 use Rattle.guarantee.specs.Demand3.{layout, totals_after, amount_after, Falls}
@@ -52,19 +55,23 @@ seventh first second day = orders first second day 20000 0 1 0
 abbrev eleventh : (first second day : ℕ) → List ℕ
 eleventh first second day = orders first second day 10001 30000 0 1000
 
+-- the totals of grouping 2 without a violation
+abbrev no_violations : List ℕ
+no_violations = 20 ∷ 0 ∷ 19 ∷ 0 ∷ 2 ∷ 0 ∷ 0 ∷ 0 ∷ 0 ∷ 0 ∷ 0 ∷ 0 ∷ 0 ∷ 0 ∷ 0 ∷ 0 ∷ 0 ∷ 0 ∷ 0 ∷ 0 ∷ []
+
 -- document 01's whole run
 abbrev pub run : List (List ℕ)
 run = fifth 69 83 1 10000 ∷ fifth 69 83 2 10000 ∷ fifth 69 83 3 10000 ∷ ninth 69 83 4 ∷ []
 
--- its statement: two days automatic, one billed, one severe, all in the highest tier; grouping 1: 4 0 2 2 2000; grouping 2: 0 0 0 0 0
+-- its statement: two days automatic, one billed, one severe, all in the highest tier; grouping 1: 4 0 2 0 2 2000; grouping 2: 0 0 0 0 0 0
 abbrev run_bytes : List ℕ
 run_bytes =
     (13 ∷ 0 ∷ 18 ∷ 0 ∷ 1 ∷ 69 ∷ 83 ∷ 4 ∷ 0 ∷ 0 ∷ 0 ∷ 0 ∷ 1 ∷ [])
     ++ (13 ∷ 0 ∷ 18 ∷ 0 ∷ 2 ∷ 69 ∷ 83 ∷ 4 ∷ 0 ∷ 0 ∷ 0 ∷ 0 ∷ 1 ∷ [])
     ++ (13 ∷ 0 ∷ 18 ∷ 0 ∷ 3 ∷ 69 ∷ 83 ∷ 2 ∷ 232 ∷ 3 ∷ 0 ∷ 0 ∷ 1 ∷ [])
     ++ (13 ∷ 0 ∷ 18 ∷ 0 ∷ 4 ∷ 69 ∷ 83 ∷ 1 ∷ 232 ∷ 3 ∷ 0 ∷ 0 ∷ 1 ∷ [])
-    ++ (18 ∷ 0 ∷ 17 ∷ 0 ∷ 1 ∷ 0 ∷ 4 ∷ 0 ∷ 0 ∷ 0 ∷ 2 ∷ 0 ∷ 2 ∷ 0 ∷ 208 ∷ 7 ∷ 0 ∷ 0 ∷ [])
-    ++ (18 ∷ 0 ∷ 17 ∷ 0 ∷ 2 ∷ 0 ∷ 0 ∷ 0 ∷ 0 ∷ 0 ∷ 0 ∷ 0 ∷ 0 ∷ 0 ∷ 0 ∷ 0 ∷ 0 ∷ 0 ∷ [])
+    ++ (20 ∷ 0 ∷ 19 ∷ 0 ∷ 1 ∷ 0 ∷ 4 ∷ 0 ∷ 0 ∷ 0 ∷ 2 ∷ 0 ∷ 0 ∷ 0 ∷ 2 ∷ 0 ∷ 208 ∷ 7 ∷ 0 ∷ 0 ∷ [])
+    ++ no_violations
 
 -- day 2 not in effect; ES and ZC of grouping 1, CL of grouping 2
 abbrev pub three_groups : List ℕ
@@ -77,7 +84,7 @@ many_marks =
     ∷ eleventh 67 76 1 ∷ fifth 90 67 1 10000 ∷ orders 90 67 6 1 0 0 1000000 ∷ []
 
 -- by day, then by the group's place: the waivers of CL are its own, ZC is exempt, and each line has its own day's factor; grouping 1:
--- 5 1 2 2 2000; grouping 2: 1 0 1 0 0
+-- 5 1 2 0 2 2000; grouping 2: 1 0 1 0 0 0
 abbrev many_bytes : List ℕ
 many_bytes =
     (13 ∷ 0 ∷ 18 ∷ 0 ∷ 1 ∷ 69 ∷ 83 ∷ 4 ∷ 0 ∷ 0 ∷ 0 ∷ 0 ∷ 1 ∷ [])
@@ -86,16 +93,41 @@ many_bytes =
     ++ (13 ∷ 0 ∷ 18 ∷ 0 ∷ 3 ∷ 69 ∷ 83 ∷ 4 ∷ 0 ∷ 0 ∷ 0 ∷ 0 ∷ 1 ∷ [])
     ++ (13 ∷ 0 ∷ 18 ∷ 0 ∷ 4 ∷ 69 ∷ 83 ∷ 2 ∷ 232 ∷ 3 ∷ 0 ∷ 0 ∷ 1 ∷ [])
     ++ (13 ∷ 0 ∷ 18 ∷ 0 ∷ 5 ∷ 69 ∷ 83 ∷ 1 ∷ 232 ∷ 3 ∷ 0 ∷ 0 ∷ 3 ∷ [])
-    ++ (18 ∷ 0 ∷ 17 ∷ 0 ∷ 1 ∷ 0 ∷ 5 ∷ 0 ∷ 1 ∷ 0 ∷ 2 ∷ 0 ∷ 2 ∷ 0 ∷ 208 ∷ 7 ∷ 0 ∷ 0 ∷ [])
-    ++ (18 ∷ 0 ∷ 17 ∷ 0 ∷ 2 ∷ 0 ∷ 1 ∷ 0 ∷ 0 ∷ 0 ∷ 1 ∷ 0 ∷ 0 ∷ 0 ∷ 0 ∷ 0 ∷ 0 ∷ 0 ∷ [])
+    ++ (20 ∷ 0 ∷ 19 ∷ 0 ∷ 1 ∷ 0 ∷ 5 ∷ 0 ∷ 1 ∷ 0 ∷ 2 ∷ 0 ∷ 0 ∷ 0 ∷ 2 ∷ 0 ∷ 208 ∷ 7 ∷ 0 ∷ 0 ∷ [])
+    ++ (20 ∷ 0 ∷ 19 ∷ 0 ∷ 2 ∷ 0 ∷ 1 ∷ 0 ∷ 0 ∷ 0 ∷ 1 ∷ 0 ∷ 0 ∷ 0 ∷ 0 ∷ 0 ∷ 0 ∷ 0 ∷ 0 ∷ 0 ∷ [])
 
--- what the statement answers after a list, to a book of G groups and an output of 120 sevens
-abbrev answers : (S : List ℕ) → (G : ℕ) → List (List ℕ) → Outcome ℕ
-answers S G rs = statement_answer S (posted S (open_book S (table (per_firm_group * G) (λ i. 9))) rs) ABC (table 120 (λ i. 7))
+-- what the statement with the grants G answers after a list, to a book of so many groups and an output of 120 sevens
+abbrev answers : (S : List ℕ) → (groups : ℕ) → List (List ℕ) → (G : List ℕ) → Outcome ℕ
+answers S groups rs G = statement_answer S (posted S (open_book S (table (per_firm_group * groups) (λ i. 9))) rs) ABC G (table 120 (λ i. 7))
 
 -- and what it leaves in that output
-abbrev leaves : (S : List ℕ) → (G : ℕ) → List (List ℕ) → List ℕ
-leaves S G rs = statement_output S (posted S (open_book S (table (per_firm_group * G) (λ i. 9))) rs) ABC (table 120 (λ i. 7))
+abbrev leaves : (S : List ℕ) → (groups : ℕ) → List (List ℕ) → (G : List ℕ) → List ℕ
+leaves S groups rs G = statement_output S (posted S (open_book S (table (per_firm_group * groups) (λ i. 9))) rs) ABC G (table 120 (λ i. 7))
+
+-- grants for the run's severe day, twice, for an automatic one, and for a day without a violation
+abbrev granted_days : List ℕ
+granted_days = grant ABC 4 69 83 ++ grant ABC 1 69 83 ++ grant ABC 4 69 83 ++ grant ABC 9 69 83
+
+-- the run's statement with them: the severe day has mark 5, and the other lines are the same; grouping 1: 4 0 2 1 1 1000
+abbrev granted_bytes : List ℕ
+granted_bytes =
+    (13 ∷ 0 ∷ 18 ∷ 0 ∷ 1 ∷ 69 ∷ 83 ∷ 4 ∷ 0 ∷ 0 ∷ 0 ∷ 0 ∷ 1 ∷ [])
+    ++ (13 ∷ 0 ∷ 18 ∷ 0 ∷ 2 ∷ 69 ∷ 83 ∷ 4 ∷ 0 ∷ 0 ∷ 0 ∷ 0 ∷ 1 ∷ [])
+    ++ (13 ∷ 0 ∷ 18 ∷ 0 ∷ 3 ∷ 69 ∷ 83 ∷ 2 ∷ 232 ∷ 3 ∷ 0 ∷ 0 ∷ 1 ∷ [])
+    ++ (13 ∷ 0 ∷ 18 ∷ 0 ∷ 4 ∷ 69 ∷ 83 ∷ 5 ∷ 0 ∷ 0 ∷ 0 ∷ 0 ∷ 1 ∷ [])
+    ++ (20 ∷ 0 ∷ 19 ∷ 0 ∷ 1 ∷ 0 ∷ 4 ∷ 0 ∷ 0 ∷ 0 ∷ 2 ∷ 0 ∷ 1 ∷ 0 ∷ 1 ∷ 0 ∷ 232 ∷ 3 ∷ 0 ∷ 0 ∷ [])
+    ++ no_violations
+
+-- a grant that is cut at nine bytes, and one of an unlisted firm
+abbrev cut_grant : List ℕ
+cut_grant = take 9 (grant ABC 4 69 83)
+
+abbrev unlisted_grant : List ℕ
+unlisted_grant = grant (90 ∷ 90 ∷ 90 ∷ []) 4 69 83
+
+-- what the statement answers to them into an output of no bytes
+abbrev into_none : (G : List ℕ) → Outcome ℕ
+into_none G = statement_answer schedule (open_book schedule (table per_firm_group (λ i. 9))) ABC G []
 
 -- the run with more lots on day 3
 abbrev eased : List (List ℕ)
@@ -121,6 +153,14 @@ reported = early ++ fifth 69 83 3 10000 ∷ []
 abbrev pub amended : List (List ℕ)
 amended = reported ++ correction 69 83 3 1 122000 143000 20000 ∷ []
 
+-- a severe day, which is granted, and two that are waived
+abbrev severe_first : List (List ℕ)
+severe_first = ninth 69 83 1 ∷ fifth 69 83 2 10000 ∷ fifth 69 83 3 10000 ∷ []
+
+-- with one message of the first less in its score, it is ordinary (60,001, 60,000, 1,000: the eighth marked day)
+abbrev milder_first : List (List ℕ)
+milder_first = orders 69 83 1 1 60000 0 1000 ∷ fifth 69 83 2 10000 ∷ fifth 69 83 3 10000 ∷ []
+
 -- a book with this edition in the cell of day 1, and else as open leaves it
 abbrev with_edition : (n : ℕ) → List ℕ
 with_edition n = with_cell (open_book schedule (table per_firm_group (λ i. 9))) (index 1 0 0 1) (record { totals = none; edition = n })
@@ -138,30 +178,45 @@ abbrev pub days_where : ((t' t : Totals) → Bool) → (S C : List ℕ) → (fir
 days_where is_so S C first second = count 31 (λ i. is_so (totals_after S C second 0 (i + 1)) (totals_after S C first 0 (i + 1)))
 
 pub record Example : Type 0 where
-  pub run_answer : answers schedule 1 run ≡ good 88
-  pub run_output : leaves schedule 1 run ≡ run_bytes ++ table 32 (λ i. 7)
-  pub many_answer : answers three_groups 3 many_marks ≡ good 114
-  pub many_output : leaves three_groups 3 many_marks ≡ many_bytes ++ table 6 (λ i. 7)
+  pub run_answer : answers schedule 1 run [] ≡ good 92
+  pub run_output : leaves schedule 1 run [] ≡ run_bytes ++ table 28 (λ i. 7)
+  pub many_answer : answers three_groups 3 many_marks [] ≡ good 118
+  pub many_output : leaves three_groups 3 many_marks [] ≡ many_bytes ++ table 2 (λ i. 7)
+  -- 2.6: the same run with grants; and 34 and 35 come before 23
+  pub granted_answer : answers schedule 1 run granted_days ≡ good 92
+  pub granted_output : leaves schedule 1 run granted_days ≡ granted_bytes ++ table 28 (λ i. 7)
+  pub cut_first : into_none cut_grant ≡ refused 34 0
+  pub unlisted_first : into_none unlisted_grant ≡ refused 35 0
+  pub then_too_short : into_none granted_days ≡ refused 23 0
   -- traffic falls: with more lots on day 3 it passes, and is billed no longer
   pub one_group : (layout schedule).groups ≡ 1
   pub eased_lighter : days_where is_lighter schedule ABC run eased ≡ 31
   pub eased_kept : days_where is_kept schedule ABC run eased ≡ 31
-  pub run_amount : amount_after schedule ABC run 1 ≡ 2000
-  pub eased_amount : amount_after schedule ABC eased 1 ≡ 1000
+  pub run_amount : amount_after schedule ABC run [] 1 ≡ 2000
+  pub eased_amount : amount_after schedule ABC eased [] 1 ≡ 1000
   -- where a raw count above zero becomes zero the amount may rise: lots of a day without messages are not summed, and the exemption is lost
   pub silent_lighter : days_where is_lighter schedule ABC excused silent ≡ 31
   pub silent_kept : days_where is_kept schedule ABC excused silent ≡ 30
-  pub excused_amount : amount_after schedule ABC excused 1 ≡ 0
-  pub silent_amount : amount_after schedule ABC silent 1 ≡ 1000
+  pub excused_amount : amount_after schedule ABC excused [] 1 ≡ 0
+  pub silent_amount : amount_after schedule ABC silent [] 1 ≡ 1000
   -- 2.3: the amount rises by activity, and falls by a correction, which makes the month lighter
-  pub early_amount : amount_after schedule ABC early 1 ≡ 0
-  pub reported_amount : amount_after schedule ABC reported 1 ≡ 1000
+  pub early_amount : amount_after schedule ABC early [] 1 ≡ 0
+  pub reported_amount : amount_after schedule ABC reported [] 1 ≡ 1000
   pub amended_lighter : days_where is_lighter schedule ABC reported amended ≡ 31
   pub amended_kept : days_where is_kept schedule ABC reported amended ≡ 31
-  pub amended_amount : amount_after schedule ABC amended 1 ≡ 0
+  pub amended_amount : amount_after schedule ABC amended [] 1 ≡ 0
   -- 2.3: 22 looks at editions too
-  pub full_edition : statement_answer schedule (with_edition 10000000000) ABC (table 36 (λ i. 7)) ≡ good 36
-  pub spoilt_edition : statement_answer schedule (with_edition 10000000001) ABC (table 36 (λ i. 7)) ≡ refused 22 0
+  pub full_edition : statement_answer schedule (with_edition 10000000000) ABC [] (table 40 (λ i. 7)) ≡ good 40
+  pub spoilt_edition : statement_answer schedule (with_edition 10000000001) ABC [] (table 40 (λ i. 7)) ≡ refused 22 0
+  -- 2.6: where a grant names a day that is severe in the first month, the amount may rise as traffic falls: the day becomes ordinary, and takes an
+  -- automatic waiver from a later one, which is billed
+  pub severe_lighter : days_where is_lighter schedule ABC severe_first milder_first ≡ 31
+  pub severe_kept : days_where is_kept schedule ABC severe_first milder_first ≡ 31
+  pub severe_granted : amount_after schedule ABC severe_first (grant ABC 1 69 83) 1 ≡ 0
+  pub milder_granted : amount_after schedule ABC milder_first (grant ABC 1 69 83) 1 ≡ 1000
+  -- 2.6: and where the grants differ, though no message does: day 3 is billed without its grant
+  pub with_grant : amount_after schedule ABC run (grant ABC 3 69 83) 1 ≡ 1000
+  pub without_grant : amount_after schedule ABC run [] 1 ≡ 2000
 
 -- so demand 3 applies to the first pair, and to the correction: proved in proofs/Applied.antt
 pub record Applies : Type 0 where
@@ -172,13 +227,18 @@ pub example : Example
 unfolding accepted_cells posted taking totals_of correction_fields check_book check_of scan ending with_record cause is_repeated fields_ok is_full length_ok is_due kind_of
     firm_listed group_listed firm_is group_is group_start firm_ok firm_fields has_code group_in_range group_fields contracts_ok contract_bad before contract
     listed head_ok head_fields is_letter contract_is is_counted is_after in_front contract_counted contract_listed days_in sum joined seek_in all choose u32_at
-    u16_at verdict any_excess month_answer line_at tally shown
+    u16_at verdict any_excess month_answer months.granted_answer line_at tally shown
 example =
     record {
       run_answer = refl;
       run_output = refl;
       many_answer = refl;
       many_output = refl;
+      granted_answer = refl;
+      granted_output = refl;
+      cut_first = refl;
+      unlisted_first = refl;
+      then_too_short = refl;
       one_group = refl;
       eased_lighter = refl;
       eased_kept = refl;
@@ -195,4 +255,10 @@ example =
       amended_amount = refl;
       full_edition = refl;
       spoilt_edition = refl;
+      severe_lighter = refl;
+      severe_kept = refl;
+      severe_granted = refl;
+      milder_granted = refl;
+      with_grant = refl;
+      without_grant = refl;
     }

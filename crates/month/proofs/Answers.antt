@@ -9,6 +9,7 @@ use Rattle.std.specs.Prelude.{Ok}
 use Rattle.std.proofs.lemmas.Result.{err_from_is_err_and}
 use Rattle.wire.specs.Choose.{choose}
 use Rattle.wire.proofs.Choose.{here, next, done, chosen}
+use Rattle.rules.specs.Marks.{no_grants}
 use Rattle.refusals.specs.Outcome.{Outcome, refused, good, follow}
 use Rattle.lookup.specs.Lookup.{firm_listed}
 use Rattle.lookup.specs.declared.Layout.{Layout}
@@ -47,12 +48,12 @@ module _ (S B C : List ℕ) where
 
 -- the month of a listed firm that 22 does not refuse is what the call promises
 pub held-month : {S B C : List ℕ} {l : Layout} {f : ℕ} {m : Month} → ListedAt S l B C f → any_excess l (cells l.groups B f) ≡ false
-    → HeldMonth S l (totals_in l.groups B f) m → MonthIs S B C (Ok m)
+    → HeldMonth S l (totals_in l.groups B f) no_grants m → MonthIs S B C (Ok m)
 held-month {S} {B} {C} {l} {f} {m} at within h =
-    let here : HeldMonth S l (firm_totals S B C l) m = subst (λ (g : ℕ). HeldMonth S l (totals_in l.groups B g) m) at.place h in
+    let here : HeldMonth S l (firm_totals S B C l) no_grants m = subst (λ (g : ℕ). HeldMonth S l (totals_in l.groups B g) no_grants m) at.place h in
     record {
       answer = ap good h.layout ∙ sym (is_judged S B C l f at within);
-      held = subst (λ (k : Layout). HeldMonth S k (firm_totals S B C k) m) (sym h.layout) here;
+      held = subst (λ (k : Layout). HeldMonth S k (firm_totals S B C k) no_grants m) (sym h.layout) here;
     }
 
 -- a month that is not refused is that of a schedule and a book that were checked

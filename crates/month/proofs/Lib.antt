@@ -1,5 +1,4 @@
 pub mod Exempt
 pub mod Waivers
 pub mod Answers
-pub mod Calls
 pub mod Loops

@@ -1,12 +1,12 @@
--- A firm's month out of the book (document 01, "The month" and "Numbers of refusal", and document 02, 2.1 and 2.3). S is the schedule, l what it holds, B
--- the book, C the firm's code.
+-- A firm's month out of the book (document 01, "The month" and "Numbers of refusal", and document 02, 2.1, 2.3 and 2.6). S is the schedule, l what it
+-- holds, B the book, C the firm's code.
 -- Assumes nothing.
 use Rattle.std.specs.Prelude.{ℕ, Bool, not, ◌&&◌, List, [], ◌∷◌, Result, Ok, Err, IfOk, ◌≡◌, leb, length}
 use Rattle.wire.specs.Choose.{some}
 use Rattle.wire.specs.Lists.{table}
 use Rattle.calendar.specs.Calendar.{days_in, in_effect}
 use Rattle.rules.specs.Month.{Terms, DailyTotals, exempt}
-use Rattle.rules.specs.Marks.{most_groups, places, day_of, group_of, Judged, judged, mark}
+use Rattle.rules.specs.Marks.{most_groups, places, day_of, group_of, Judged, no_grants, judged, mark}
 use Rattle.refusals.specs.Outcome.{Outcome, refused, good, follow, asked, number_of}
 use Rattle.refusals.specs.declared.Refusal.{Refusal}
 use Rattle.lookup.specs.Lookup.{group_start, group_at, firm_listed, firm_place}
@@ -27,9 +27,9 @@ terms S l =
       grouping = λ g. (group_at S l g).grouping;
     }
 
--- The month: a firm's verdicts, exemptions and groupings, from its totals and by the rules in force
-abbrev pub month_of : (S : List ℕ) → Layout → DailyTotals → Judged
-month_of S l c = judged (rules_of S) (terms S l) c
+-- The month: a firm's verdicts, exemptions and groupings, from its totals and by the rules in force; 2.6: and the places that its grants name
+abbrev pub month_of : (S : List ℕ) → Layout → DailyTotals → (granted : (i : ℕ) → Bool) → Judged
+month_of S l c granted = judged (rules_of S) (terms S l) c granted
 
 -- Numbers of refusal, 22: a number of that firm, days of the month, above 10,000,000,000; here on the day and in the group of place i
 abbrev pub is_excess : Layout → FirmCells → (i : ℕ) → Bool
@@ -44,13 +44,9 @@ module _ (S B C : List ℕ) (l : Layout) where
   abbrev pub firm_cells : FirmCells
   firm_cells = cells l.groups B (firm_place S l C)
 
-  -- their totals
+  -- their totals: what judges a day sees these alone
   abbrev pub firm_totals : DailyTotals
   firm_totals = cell_totals firm_cells
-
-  -- its month: what judges a day sees the totals alone
-  abbrev pub firm_month : Judged
-  firm_month = month_of S l firm_totals
 
   -- Numbers of refusal, 21 and 22, top to bottom: firm code unlisted; a number above the limit
   abbrev pub month_causes : List (Bool × ℕ)
@@ -72,20 +68,20 @@ group_month S l c g = record { start = group_start S l.first g; grouping = (grou
 abbrev pub groups_of : (S : List ℕ) → Layout → DailyTotals → List GroupMonth
 groups_of S l c = table most_groups (group_month S l c)
 
--- a firm's month as it is held, for the totals c: place by place and group by group
-pub record HeldMonth (S : List ℕ) (l : Layout) (c : DailyTotals) (m : Month) : Type 0 where
+-- a firm's month as it is held, for the totals c and the places that its grants name: place by place and group by group
+pub record HeldMonth (S : List ℕ) (l : Layout) (c : DailyTotals) (granted : (i : ℕ) → Bool) (m : Month) : Type 0 where
   pub layout : m.layout ≡ l
   pub groups : m.groups ≡ groups_of S l c
   -- 2.1: what uses a verdict passes the factor on
-  pub verdicts : m.verdicts ≡ table places (month_of S l c).verdict
-  pub marks : m.marks ≡ table places (mark (rules_of S) (month_of S l c))
+  pub verdicts : m.verdicts ≡ table places (month_of S l c granted).verdict
+  pub marks : m.marks ≡ table places (mark (rules_of S) (month_of S l c granted))
 
 -- what the call's answer means: a refusal, or what the schedule holds
 abbrev pub month_meaning : Result Month Refusal → Outcome Layout
 month_meaning (Ok m) = good m.layout
 month_meaning (Err r) = refused (number_of r.cause) r.offset
 
--- what the call promises: a refusal, or the firm's month
+-- what the call promises: a refusal, or the firm's month without grants
 pub record MonthIs (S B C : List ℕ) (r : Result Month Refusal) : Type 0 where
   pub answer : month_meaning r ≡ month_answer S B C
-  pub held : IfOk r (λ m. HeldMonth S m.layout (firm_totals S B C m.layout) m)
+  pub held : IfOk r (λ m. HeldMonth S m.layout (firm_totals S B C m.layout) no_grants m)

@@ -1,4 +1,4 @@
-// One firm's month out of the book: refused by 1 to 8, 21 or 22, or its verdicts, exemptions and marks.
+// One firm's month out of the book: refused by 1 to 8, 21 or 22, or its verdicts, exemptions and marks without grants.
 #![tactic(auto)]
 
 mod days;
@@ -8,6 +8,7 @@ mod marks;
 
 ghost use Rattle.std.specs.Prelude.{◌≡◌};
 ghost use Rattle.month.specs.Firm.{bytes_of, layout_of, totals_of};
+ghost use Rattle.rules.specs.Marks.{no_grants};
 ghost use Rattle.month.specs.Month.{MonthIs, HeldMonth};
 
 use book::check_book;
@@ -38,7 +39,7 @@ pub struct Month {
 
 // The month of a firm.
 fn judged_month(firm: &FirmBook) -> Month
-    ensures { HeldMonth (bytes_of firm.now) (layout_of firm.now) (totals_of firm.now) result }
+    ensures { HeldMonth (bytes_of firm.now) (layout_of firm.now) (totals_of firm.now) no_grants result }
 {
     let groups = firm.groups();
     let verdicts = firm.verdicts();
@@ -51,7 +52,7 @@ fn judged_month(firm: &FirmBook) -> Month
     }
 }
 
-// The month of the firm with a code, a slice of any length.
+// The month, without grants, of the firm with a code, a slice of any length.
 #[tactic(auto, using(crate::proofs::Answers::refusing))]
 pub fn firm_month(schedule: &[u8], book: &[u64], code: &[u8]) -> Result<Month, Refusal>
     ensures { MonthIs schedule.now book.now code.now result }

@@ -53,6 +53,9 @@ number_of cause.Unsound = 31
 number_of cause.Superseded = 32
 -- 2.5: a record's minimum-quantity orders
 number_of cause.ImpossibleMinimum = 33
+-- 2.6: a statement's grants
+number_of cause.MalformedGrant = 34
+number_of cause.UnknownGrant = 35
 
 -- Numbers of refusal, from 8 on: a cause has the offset 0
 abbrev pub at_front : Cause → Refusal

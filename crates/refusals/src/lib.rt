@@ -50,6 +50,10 @@ pub enum Cause {
     Superseded,
     // Activity has more minimum-quantity orders than new orders and FAK/FOK orders together.
     ImpossibleMinimum,
+    // Of a statement's grant: it is cut, or has the wrong kind or length.
+    MalformedGrant,
+    // Its firm or group is unlisted, or its day is not in the month.
+    UnknownGrant,
 }
 
 impl Cause {
@@ -80,6 +84,8 @@ impl Cause {
             Cause::Unsound => 31,
             Cause::Superseded => 32,
             Cause::ImpossibleMinimum => 33,
+            Cause::MalformedGrant => 34,
+            Cause::UnknownGrant => 35,
         }
     }
 }

@@ -39,6 +39,8 @@ module _ (C : List ℕ) where
         byte 15 (omega arith),
         byte 16 (omega arith),
         byte 17 (omega arith),
+        byte 18 (omega arith),
+        byte 19 (omega arith),
       )
     where
       byte : (i : ℕ) → i < length T → get_or (T ++ X) i 0 ≡ get_or T i 0

@@ -1,5 +1,5 @@
--- What mep-statement prints for an input (document 01, "Eleven marked days, a month and one whole run", and document 02, 2.3). I is the input, S the
--- schedule, l what it holds, rs the posted records, B the book, C a firm's code.
+-- What mep-statement prints for an input (document 01, "Eleven marked days, a month and one whole run", and document 02, 2.3 and 2.6). I is the input, S
+-- the schedule, l what it holds, rs the posted records, B the book, C a firm's code.
 -- Assumes nothing.
 use Rattle.std.specs.Prelude.{ℕ, ◌-◌, ◌*◌, ◌/◌, cond, List, [], ◌∷◌, ◌++◌, ltb, length, drop, replicate}
 use Rattle.wire.specs.Lists.{joined}
@@ -57,12 +57,12 @@ module _ (S : List ℕ) (l : Layout) where
   abbrev pub code_of : (f : ℕ) → List ℕ
   code_of f = (firm_fields (rest_at S (firm_start l.start f))).code
 
-  -- then per firm its violations and totals
+  -- then per firm its violations and totals; 2.6: the program reads no grants
   unfoldable pub statement_of : (B : List ℕ) → (f : ℕ) → List ℕ
   statement_of B f =
       let C = code_of f in
       let out = zeros largest in
-      firm_lines C (statement_output S B C out) (statement_answer S B C out)
+      firm_lines C (statement_output S B C [] out) (statement_answer S B C [] out)
 
   -- heading with month number, then "refused N" lines if any, then per firm its violations and totals
   unfoldable pub month_lines : (rs : List (List ℕ)) → List ℕ

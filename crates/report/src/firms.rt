@@ -32,13 +32,13 @@ fn put_statement(out: &mut Output, code: &[u8], statement: &[u8])
     out.put_totals(code, second);
 }
 
-// Writes the lines of a firm. In a report its statement is never refused (report_laws).
+// Writes the lines of a firm, without grants. In a report its statement is never refused (report_laws).
 fn put_firm(out: &mut Output, schedule: &Schedule, book: &[u64], firm: u8)
     ensures { Wrote out.old (statement_of schedule.now.bytes.now schedule.now.layout book.now firm) out.new }
 {
     let code = schedule.firm(firm).code;
     let mut records = [0; LARGEST];
-    match statement(schedule.bytes, book, &code, &mut records) {
+    match statement(schedule.bytes, book, &code, &[], &mut records) {
         Err(refusal) => out.put_line(Line::Refused(refusal.cause.number())),
         Ok(bytes) => put_statement(out, &code, &records[..bytes]),
     }

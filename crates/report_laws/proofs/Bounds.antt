@@ -20,7 +20,7 @@ use Rattle.wire.proofs.Lists.{joined_most}
 use Rattle.wire.proofs.Sums.{count_blocks}
 use Rattle.rules.specs.Verdict.{version96, not_judged, verdict, is_violation}
 use Rattle.rules.specs.Month.{DailyTotals}
-use Rattle.rules.specs.Marks.{places, day_of, group_of}
+use Rattle.rules.specs.Marks.{places, day_of, group_of, no_grants}
 use Rattle.records.specs.Fields.{firm_fields}
 use Rattle.refusals.specs.Outcome.{Outcome, refused, good, follow, given}
 use Rattle.schedule.specs.Check.{check_of}
@@ -37,8 +37,9 @@ use Rattle.cell.specs.declared.Cell.{Cell}
 use Rattle.book.proofs.Checked.{by_room, sized}
 use Rattle.statement.specs.Layout.{line_size, totals_size, both_totals, largest}
 use Rattle.statement.specs.Statement as statement
-use Rattle.month.specs.Month.{terms, month_of, firm_totals, firm_month, month_answer}
-use Rattle.month.proofs.Answers.{judged-book}
+use Rattle.month.specs.Month.{terms, month_of, firm_totals}
+use Rattle.grants.specs.Month.{granted_month, granted_answer}
+use Rattle.grants.proofs.Answers.{granted-book}
 use Rattle.statement.specs.Statement.{statement_bytes, need, output_under}
 use Rattle.statement.proofs.Shown.{bytes-length}
 use Rattle.input.specs.Input.{input_limit, begins_activity, records_from, schedule_of, activity_of}
@@ -81,7 +82,7 @@ activity_most (R ∷ rs) = go (begins_activity R) (activity_most rs)
 -- C is a firm's code
 module _ (C : List ℕ) (three : length C ≡ 3) where
   -- the lines of a statement with v violations
-  statement_most : (R : List ℕ) (v bytes : ℕ) → bytes ≡ line_size * v + both_totals → length (statement_lines C R bytes) ≤ v * 59 + 280
+  statement_most : (R : List ℕ) (v bytes : ℕ) → bytes ≡ line_size * v + both_totals → length (statement_lines C R bytes) ≤ v * 59 + 322
   unfolding statement_lines
   statement_most R v bytes e =
       let n : (bytes - both_totals) / line_size ≡ v = omega arith in
@@ -89,8 +90,8 @@ module _ (C : List ℕ) (three : length C ≡ 3) where
       rw n (simp length-append (omega (arith, totals_most C three (drop (bytes - both_totals) R), totals_most C three (drop (bytes - totals_size) R))))
 
 -- a firm has at most a violation a day in each group: a place past the last group has none
-violations_most : (S : List ℕ) (l : Layout) (c : DailyTotals) → count places (λ i. is_violation ((month_of S l c).verdict i).code) ≤ 31 * l.groups
-violations_most S l c = count_blocks (λ i. is_violation ((month_of S l c).verdict i).code) l.groups (λ i. go i (ltb (group_of i) l.groups) refl) 31
+violations_most : (S : List ℕ) (l : Layout) (c : DailyTotals) → count places (λ i. is_violation ((month_of S l c no_grants).verdict i).code) ≤ 31 * l.groups
+violations_most S l c = count_blocks (λ i. is_violation ((month_of S l c no_grants).verdict i).code) l.groups (λ i. go i (ltb (group_of i) l.groups) refl) 31
   where
     go : (i : ℕ) (b : Bool) → ltb (group_of i) l.groups ≡ b
         → is_violation (cond (b && (terms S l).in_effect (day_of i)) (verdict version96 (group_at S l (group_of i)).benchmark 1 (c (group_of i) (day_of i))) not_judged).code ≡ true
@@ -120,7 +121,7 @@ taking_most S l c R = go (eqb first 0) (is_counted_record S l R) (eqb second 0)
 
 -- so many bytes a firm's lines have at the most
 abbrev firm_most : Layout → ℕ
-firm_most l = 31 * l.groups * 59 + 280
+firm_most l = 31 * l.groups * 59 + 322
 
 module _ (S : List ℕ) {l : Layout} (e : check_of S ≡ good l) where
   -- a post has no line, or that of 8, or the record's
@@ -138,7 +139,7 @@ module _ (S : List ℕ) {l : Layout} (e : check_of S ≡ good l) where
   -- a firm has its statement's lines, or that of a refusal
   firm-most : (B : List ℕ) (f : ℕ) → length (statement_of S l B f) ≤ firm_most l
   unfolding statement_of firm_fields
-  firm-most B f = go (month_answer S B C) refl
+  firm-most B f = go (granted_answer S B C []) refl
     where
       C : List ℕ
       C = code_of S l f
@@ -147,21 +148,21 @@ module _ (S : List ℕ) {l : Layout} (e : check_of S ≡ good l) where
       out = zeros largest
 
       by : (b : Bool)
-          → length (firm_lines C (cond b out (over (statement_bytes S l (firm_month S B C l)) out)) (cond b (refused 23 0) (good (length (statement_bytes S l (firm_month S B C l)))))) ≤ firm_most l
+          → length (firm_lines C (cond b out (over (statement_bytes S l (granted_month S B C [] l)) out)) (cond b (refused 23 0) (good (length (statement_bytes S l (granted_month S B C [] l)))))) ≤ firm_most l
       by true = le_trans (refused_most 23) (omega arith)
       by false =
-          let j = firm_month S B C l in
+          let j = granted_month S B C [] l in
           let v = count places (λ i. is_violation (j.verdict i).code) in
           omega (arith, violations_most S l (firm_totals S B C l), statement_most C refl (over (statement_bytes S l j) out) v _ (bytes-length S l j))
 
-      go : (x : Outcome Layout) → month_answer S B C ≡ x → length (firm_lines C (given x out (output_under S B C out)) (follow x (statement.answer_under S B C out))) ≤ firm_most l
+      go : (x : Outcome Layout) → granted_answer S B C [] ≡ x → length (firm_lines C (given x out (output_under S B C [] out)) (follow x (statement.answer_under S B C [] out))) ≤ firm_most l
       go (refused n o) q = le_trans (refused_most n) (omega arith)
       go (good k) q =
-          let same : k ≡ l = let h = sym (sized S (length B) (judged-book S B C q)).schedule ∙ e in cc in
-          rw same (by (ltb (length out) (need (firm_month S B C l))))
+          let same : k ≡ l = let h = sym (sized S (length B) (granted-book S B C [] q)).schedule ∙ e in cc in
+          rw same (by (ltb (length out) (need (granted_month S B C [] l))))
 
 -- a month has its heading, and the lines of its posts and firms: the book holds 124 numbers for each group of each firm, so these are at most 66
-month_most : (S : List ℕ) {l : Layout} → check_book S book_size ≡ good l → (rs : List (List ℕ)) → length (month_lines S l rs) ≤ 139219 + 11 * length rs
+month_most : (S : List ℕ) {l : Layout} → check_book S book_size ≡ good l → (rs : List (List ℕ)) → length (month_lines S l rs) ≤ 141991 + 11 * length rs
 unfolding month_lines
 month_most S {l} c rs =
     let z = sized S book_size c in

@@ -1,8 +1,8 @@
 -- What a report shows of a firm. Its statement is not refused: the book was opened, the firm is listed, and the output has room for a line on every
--- place. So demand 3 says what its totals are.
+-- place. So demand 3 without grants says what its totals are.
 use Prim.Native.Nat.{ℕ, ◌+◌, ◌-◌, ◌*◌, ◌/◌, ◌≤◌, ◌<◌}
 use mathlib.Core.Bool.{true}
-use mathlib.Core.List.{List, ◌++◌}
+use mathlib.Core.List.{List, [], ◌++◌}
 use mathlib.Core.Path.{◌≡◌, refl, sym}
 use native.Mathlib.Nat.{le_refl}
 use native.Mathlib.Omega.{arith}
@@ -12,7 +12,7 @@ use Rattle.wire.specs.Lists.{joined}
 use Rattle.wire.proofs.Choose.{some_at}
 use Rattle.wire.proofs.Sums.{count_most}
 use Rattle.rules.specs.Verdict.{is_violation}
-use Rattle.rules.specs.Marks.{places, Judged, violations}
+use Rattle.rules.specs.Marks.{places, Judged, violations, marked}
 use Rattle.rules.specs.declared.Rules.{Rules}
 use Rattle.std.proofs.lemmas.Slice.Eq.{bytes_eq-Decides}
 use Rattle.records.specs.Fields.{has_code}
@@ -24,11 +24,12 @@ use Rattle.schedule.proofs.Good.{refused-good}
 use Rattle.book.specs.Book.{check_book, open_answer, open_book}
 use Rattle.accepted.specs.Accepted.{of_bytes, posted}
 use Rattle.book.proofs.Checked.{sized}
-use Rattle.month.specs.Month.{firm_month, month_answer}
+use Rattle.grants.specs.Month.{granted_month, granted_answer}
+use Rattle.grants.proofs.Answers.{none-refused, is_taken}
 use Rattle.statement.specs.Layout.{line_size, totals_size, both_totals, largest}
 use Rattle.statement.specs.Statement.{need, statement_answer}
 use Rattle.guarantee.specs.Demand3.{is_listed, month_after, Run, output_of, TotalsAre, after_lines}
-use Rattle.guarantee.proofs.Demand3.{judged_after, demand3}
+use Rattle.guarantee.proofs.Demand3.{judged_after, without_grants}
 use Rattle.text.specs.Lines.{counts, violation_line, totals_line}
 use Rattle.report.specs.Report.{book_size, zeros, statement_lines, code_of, statement_of}
 use Rattle.report_laws.specs.Laws.{month_totals, FirmShown}
@@ -48,9 +49,9 @@ need_most : (j : Judged) → need j ≤ largest
 need_most j = omega (arith, count_most places (λ i. is_violation (j.verdict i).code))
 
 -- an output that has room for every place is not refused by 23
-enough : (S B C out : List ℕ) (l : Layout) → month_answer S B C ≡ good l → largest ≤ length out → statement_answer S B C out ≡ refused 23 0 → ⊥
+enough : (S B C out : List ℕ) (l : Layout) → granted_answer S B C [] ≡ good l → largest ≤ length out → statement_answer S B C [] out ≡ refused 23 0 → ⊥
 enough S B C out l e h w =
-    let j = firm_month S B C l in
+    let j = granted_month S B C [] l in
     let t = le-ltb (length out) (need j) (omega (arith, need_most j)) in
     refused-good (sym (rw t at (rw e at w)))
 
@@ -62,20 +63,20 @@ own-listed S l f h = some_at l.firms (firm_is S l.start (code_of S l f)) f h (ow
 -- under any rules P
 module _ (P : Rules) where
   -- totals that stand in a statement are printed as those of the month
-  totals_shown : (C T : List ℕ) (e : ℕ) (j : Judged) → TotalsAre P T e j → totals_line C T ≡ month_totals P C e j
+  totals_shown : (C T : List ℕ) (e : ℕ) (j : Judged) → marked P j e 5 ≡ 0 → TotalsAre P T e j → totals_line C T ≡ month_totals P C e j
   unfolding totals_line counts
-  totals_shown C T e j t = rw (t.grouping, t.violations_are, t.monthly_are, t.automatic_are, t.billed_are, t.dollars_are)
+  totals_shown C T e j none t = rw (t.grouping, t.violations_are, t.monthly_are, t.automatic_are, t.granted_are, none, t.billed_are, t.dollars_are)
 
   -- the lines of a statement whose totals are those of the month
-  lines_shown : (C R : List ℕ) (j : Judged) → TotalsAre P (drop (after_lines j) R) 1 j → TotalsAre P (drop (after_lines j + totals_size) R) 2 j
+  lines_shown : (C R : List ℕ) (j : Judged) → ((e : ℕ) → marked P j e 5 ≡ 0) → TotalsAre P (drop (after_lines j) R) 1 j → TotalsAre P (drop (after_lines j + totals_size) R) 2 j
       → statement_lines C R (after_lines j + both_totals)
       ≡ joined (violations j 1 + violations j 2) (λ i. violation_line C (drop (line_size * i) R)) ++ month_totals P C 1 j ++ month_totals P C 2 j
   unfolding statement_lines
-  lines_shown C R j t u =
+  lines_shown C R j none t u =
       let n : (after_lines j + both_totals - both_totals) / line_size ≡ violations j 1 + violations j 2 = omega arith in
       let one : after_lines j + both_totals - both_totals ≡ after_lines j = omega arith in
       let two : after_lines j + both_totals - totals_size ≡ after_lines j + totals_size = omega arith in
-      rw (n, one, two, totals_shown C (drop (after_lines j) R) 1 j t, totals_shown C (drop (after_lines j + totals_size) R) 2 j u)
+      rw (n, one, two, totals_shown C (drop (after_lines j) R) 1 j (none 1) t, totals_shown C (drop (after_lines j + totals_size) R) 2 j (none 2) u)
 
 -- after any list of posts each of the month's firms has its violations and totals
 pub firm_shown : (S : List ℕ) {l : Layout} → check_book S book_size ≡ good l → (rs : List (List ℕ)) → of_bytes rs ≡ true → (f : ℕ) → f < l.firms
@@ -92,13 +93,15 @@ firm_shown S {l} e rs bytes f h =
     record {
       book = zeros book_size;
       posts = rs;
+      grants = [];
       output = zeros largest;
       opened = opened;
       bytes = bytes;
-      enough = enough S B C (zeros largest) l judged (rw zeros-length (le_refl _));
+      enough = enough S B C (zeros largest) l (is_taken S B C [] judged (none-refused S l)) (rw zeros-length (le_refl _));
     } in
-    let a = (demand3 S C listed).adds_up p in
+    let w = without_grants S C listed in
+    let a = w.adds_up p refl in
     record {
       answer = a.answered;
-      shown = rw a.answered (lines_shown (rules_of S) C (output_of S C p) (month_after S C rs) a.first a.second);
+      shown = rw a.answered (lines_shown (rules_of S) C (output_of S C p) (month_after S C rs []) (w.none_granted p refl) a.first a.second);
     }

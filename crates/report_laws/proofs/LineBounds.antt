@@ -11,7 +11,7 @@ use Rattle.io.specs.Digits.{last_digits}
 use Rattle.wire.proofs.Choose.{sought_in, choose_most}
 use Rattle.text.specs.Text.{digit_count, decimal}
 use Rattle.statement.specs.Layout.{line_day, line_mark, line_dollars}
-use Rattle.statement.specs.Layout.{totals_grouping, totals_violations, totals_monthly, totals_automatic, totals_billed, totals_dollars}
+use Rattle.statement.specs.Layout.{totals_grouping, totals_violations, totals_monthly, totals_automatic, totals_granted, totals_billed, totals_dollars}
 use Rattle.text.specs.Lines.{refused_at, heading, refused_line, mark_word, counts, violation_line, totals_line}
 
 -- k digits are k bytes
@@ -66,13 +66,14 @@ module _ (C : List ℕ) (three : length C ≡ 3) where
   violation_most L = simp length-append (omega (arith, decimal_most (line_day L), word_most (line_mark L), decimal_most (line_dollars L)))
 
   -- the line of a grouping's totals
-  pub totals_most : (T : List ℕ) → length (totals_line C T) ≤ 140
+  pub totals_most : (T : List ℕ) → length (totals_line C T) ≤ 161
   unfolding totals_line counts
   totals_most T =
       let grouping = decimal_most (totals_grouping T) in
       let violations = decimal_most (totals_violations T) in
       let monthly = decimal_most (totals_monthly T) in
       let automatic = decimal_most (totals_automatic T) in
+      let granted = decimal_most (totals_granted T) in
       let billed = decimal_most (totals_billed T) in
       let dollars = decimal_most (totals_dollars T) in
       simp length-append (omega arith)

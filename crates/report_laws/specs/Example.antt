@@ -1,5 +1,5 @@
 -- Computed examples of what mep-statement prints: document 01's whole run, what is refused, a text that is cut, and (document 02, 2.3) activity that
--- begins with a correction.
+-- begins with a correction. 2.6: totals lines have a 0 after automatic.
 -- Assumes nothing.
 use Rattle.std.specs.Prelude.{ℕ, List, [], ◌∷◌, ◌++◌, ◌≡◌, refl}
 use Rattle.wire.specs.Bytes.{u16_at, u32_at}
@@ -21,6 +21,7 @@ use Rattle.book.specs.Post.{taking}
 use Rattle.accepted.specs.Accepted.{posted}
 use Rattle.accepted.specs.Samples.{firm, activity, correction}
 use Rattle.month.specs.Month.{any_excess, month_answer}
+use Rattle.grants.specs.Month.{granted_answer}
 use Rattle.statement.specs.Lines.{line_at, tally, shown}
 use Rattle.guarantee.specs.Example.{schedule, run, three_groups, many_marks}
 use Rattle.text.specs.Text.{text, decimal}
@@ -51,9 +52,9 @@ pub record Example : Type 0 where
       ++ text "ABC 2 ES automatic 0\n"
       ++ text "ABC 3 ES billed 1000\n"
       ++ text "ABC 4 ES severe 1000\n"
-      ++ text "ABC grouping 1: 4 0 2 2 2000\n"
-      ++ text "ABC grouping 2: 0 0 0 0 0\n"
-  -- all four marks, both exchange groupings, and two refused records, whose lines come before the firm's
+      ++ text "ABC grouping 1: 4 0 2 0 2 2000\n"
+      ++ text "ABC grouping 2: 0 0 0 0 0 0\n"
+  -- all four marks of document 01, both exchange groupings, and two refused records, whose lines come before the firm's
   pub four_marks :
       report (three_groups ++ flat many_marks ++ late)
       ≡ text "MPS 24237\n"
@@ -65,22 +66,22 @@ pub record Example : Type 0 where
       ++ text "ABC 3 ES automatic 0\n"
       ++ text "ABC 4 ES billed 1000\n"
       ++ text "ABC 5 ES severe 1000\n"
-      ++ text "ABC grouping 1: 5 1 2 2 2000\n"
-      ++ text "ABC grouping 2: 1 0 1 0 0\n"
+      ++ text "ABC grouping 1: 5 1 2 0 2 2000\n"
+      ++ text "ABC grouping 2: 1 0 1 0 0 0\n"
   -- 2.3: the first kind 8 begins the activity; the order is refused
   pub correction_first :
       report (schedule ++ corrected)
       ≡ text "MPS 24237\n"
       ++ text "refused 32\n"
       ++ text "ABC 1 ES automatic 0\n"
-      ++ text "ABC grouping 1: 1 0 1 0 0\n"
-      ++ text "ABC grouping 2: 0 0 0 0 0\n"
+      ++ text "ABC grouping 1: 1 0 1 0 0 0\n"
+      ++ text "ABC grouping 2: 0 0 0 0 0 0\n"
   -- no activity: all is schedule, and the firm has its totals
   pub quiet :
       report schedule
       ≡ text "MPS 24237\n"
-      ++ text "ABC grouping 1: 0 0 0 0 0\n"
-      ++ text "ABC grouping 2: 0 0 0 0 0\n"
+      ++ text "ABC grouping 1: 0 0 0 0 0 0\n"
+      ++ text "ABC grouping 2: 0 0 0 0 0 0\n"
   -- a refused schedule prints only its number and offset: no bytes; a firm first; a tail before any activity
   pub no_bytes : report [] ≡ text "refused 4 at 0\n"
   pub firm_first : report firm ≡ text "refused 2 at 0\n"
@@ -95,7 +96,7 @@ pub example : Example
 unfolding posted taking totals_of correction_fields check_book check_of scan ending with_record cause is_repeated fields_ok is_full length_ok is_due kind_of
     firm_listed group_listed firm_is group_is group_start firm_ok firm_fields has_code group_in_range group_fields contracts_ok contract_bad before contract
     listed head_ok head_fields is_letter contract_is is_counted is_after in_front contract_counted contract_listed days_in sum joined seek_in all choose u32_at
-    u16_at verdict any_excess month_answer line_at tally shown first_length cut_in bytes_before records_from decimal refused_at heading refused_line mark_word
+    u16_at verdict any_excess month_answer granted_answer line_at tally shown first_length cut_in bytes_before records_from decimal refused_at heading refused_line mark_word
     counts violation_line totals_line statement_lines zeros post_lines statement_of month_lines report
 example =
     record {

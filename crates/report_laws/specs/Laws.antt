@@ -1,6 +1,7 @@
--- What holds of every report (document 01, "Eleven marked days, a month and one whole run", and document 02, 2.1 and 2.3). Proved in proofs/Laws.antt.
+-- What holds of every report (document 01, "Eleven marked days, a month and one whole run", and document 02, 2.1, 2.3 and 2.6). Proved in
+-- proofs/Laws.antt.
 -- Assumes nothing.
-use Rattle.std.specs.Prelude.{ℕ, ◌+◌, ◌*◌, ◌≤◌, ◌<◌, true, List, ◌++◌, ◌≡◌, length, take, drop, set}
+use Rattle.std.specs.Prelude.{ℕ, ◌+◌, ◌*◌, ◌≤◌, ◌<◌, true, List, [], ◌++◌, ◌≡◌, length, take, drop, set}
 use Rattle.wire.specs.Bytes.{are_bytes}
 use Rattle.wire.specs.Lists.{joined}
 use Rattle.rules.specs.Marks.{Judged, violations, marked, billed, amount}
@@ -19,19 +20,21 @@ use Rattle.text.specs.Lines.{violation_line}
 use Rattle.report.specs.Report.{book_size, zeros, code_of, statement_of, report}
 use Rattle.report.specs.Answer.{output_size, whole, bytes_of, report_answer, report_output}
 
--- a firm's totals in the exchange grouping e, of its month j under the rules P: violations, monthly, automatic, billed with severe, and the firm's amount there
+-- a firm's totals in the exchange grouping e, of its month j under the rules P: violations, monthly, automatic, a 0 for granted (2.6), billed with severe,
+-- and the firm's amount there
 abbrev pub month_totals : Rules → (C : List ℕ) → (e : ℕ) → Judged → List ℕ
 month_totals P C e j =
     C ++ text " grouping" ++ field e ++ text ":"
     ++ (field (violations j e)
     ++ field (marked P j e 3)
     ++ field (marked P j e 4)
+    ++ field 0
     ++ field (billed P j e)
     ++ field (amount P j e))
     ++ text "\n"
 
 -- firm f of the schedule S, after the posts rs to the program's book: its code C, that book B, its statement R, and its month j, which comes from the
--- schedule and the posts alone
+-- schedule and the posts alone; 2.6: the program reads no grants
 module _ (S : List ℕ) (l : Layout) (rs : List (List ℕ)) (f : ℕ) where
   abbrev C : List ℕ
   C = code_of S l f
@@ -40,15 +43,15 @@ module _ (S : List ℕ) (l : Layout) (rs : List (List ℕ)) (f : ℕ) where
   B = posted S (open_book S (zeros book_size)) rs
 
   abbrev R : List ℕ
-  R = statement_output S B C (zeros largest)
+  R = statement_output S B C [] (zeros largest)
 
   abbrev j : Judged
-  j = month_after S C rs
+  j = month_after S C rs []
 
   -- what the report shows of it
   pub record FirmShown : Type 0 where
     -- its statement is not refused
-    pub answer : statement_answer S B C (zeros largest) ≡ good (after_lines j + both_totals)
+    pub answer : statement_answer S B C [] (zeros largest) ≡ good (after_lines j + both_totals)
     -- a line for each violation, then the totals of the two exchange groupings, with what the firm owes
     pub shown :
         statement_of S l B f

@@ -12,6 +12,7 @@ use Rattle.rules.specs.Laws.{Laws, read_back, Panel}
 use Rattle.rules.specs.declared.Rules.{Rules}
 use Rattle.rules.specs.declared.Totals.{Totals}
 use Rattle.rules.proofs.Codes.{fails, severe, factor, violation_falls, severe_falls, never_24, pair}
+use Rattle.rules.proofs.Marks.{frees_none}
 use Rattle.rules.proofs.Bills.{adds_up, dollars}
 use Rattle.rules.proofs.Lighter.{eased, exempt_stays, amount_lighter}
 
@@ -24,7 +25,8 @@ laws P F =
       lighter_code =
           λ B d t' t h. record { violation = follows (violation_falls P F (eased h) B); severe = follows (severe_falls P F (eased h) B) };
       lighter_exempt = λ s c' c h g hg. follows (exempt_stays P F s c' c h g hg);
-      lighter_amount = amount_lighter P F;
+      lighter_amount = λ s c' c granted h. amount_lighter P F s c' c h granted;
+      frees_none = frees_none P;
       adds_up = adds_up P;
       dollars = dollars P;
     }

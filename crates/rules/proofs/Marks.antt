@@ -1,7 +1,7 @@
 -- What one place's mark says of its code, by a table of the tests that gave the mark. A place of the grouping e has the waivers of e, since its
--- own grouping is e; and a mark goes by the places up to its own, so judgements that agree there agree on it.
+-- own grouping is e; a grant names it or not; and a mark goes by the places up to its own, so judgements that agree there agree on it.
 use Prim.Native.Nat.{ℕ, ◌+◌, ◌-◌, ◌<◌}
-use mathlib.Core.Bool.{Bool, true, false, not, ◌&&◌, ◌||◌}
+use mathlib.Core.Bool.{Bool, true, false, cond, not, ◌&&◌, ◌||◌}
 use mathlib.Core.List.{[], ◌∷◌}
 use mathlib.Core.Path.{◌≡◌, refl, ap}
 use native.Mathlib.Nat.{lt_trans}
@@ -12,7 +12,7 @@ use Rattle.wire.specs.Choose.{choose}
 use Rattle.wire.specs.Sums.{bit, count}
 use Rattle.wire.proofs.Sums.{sum_same}
 use Rattle.rules.specs.Verdict.{is_violation, is_severe}
-use Rattle.rules.specs.Marks.{Judged, left, is_billed, mark}
+use Rattle.rules.specs.Marks.{Judged, left, is_billed, granted_mark, mark_before, mark}
 use Rattle.rules.specs.declared.Rules.{Rules}
 
 -- a code is 4, 5 or neither: f and s are those tests
@@ -30,19 +30,30 @@ kind n = go (eqb n 4) (eqb n 5) refl refl
     go false true p q = severe
     go true true p q = absurd (omega (arith, eqb-true n 4 p, eqb-true n 5 q))
 
--- the mark m by its tests: those of the code; x, its group is exempt; w, a waiver is free
-record Given (f s x w : Bool) (m : ℕ) : Type 0 where
+-- the mark m by its tests, and m₀ before grants: those of the code; x, its group is exempt; w, a waiver is free; g, a grant names it
+record Given (f s x w g : Bool) (m₀ m : ℕ) : Type 0 where
   none : eqb m 0 ≡ not (f || s)
-  one : bit (f || s) ≡ bit (eqb m 3) + bit (eqb m 4) + bit (is_billed m)
-  bill : bit (is_billed m) ≡ bit s + (bit (f && not x) - bit w)
+  one : bit (f || s) ≡ bit (eqb m 3) + bit (eqb m 4) + bit (eqb m 5) + bit (is_billed m)
+  bill : bit (is_billed m) ≡ cond g 0 (bit s + (bit (f && not x) - bit w))
+  monthly : eqb m 3 ≡ eqb m₀ 3
+  automatic : eqb m 4 ≡ eqb m₀ 4
+  granted : eqb m 5 ≡ g && is_billed m₀
 
-given : {f s : Bool} → Kind f s → (x w : Bool) → Given f s x w (choose ((not (f || s), 0) ∷ (s, 1) ∷ (x, 3) ∷ (w, 4) ∷ []) 2)
+abbrev by_tests : (f s x w : Bool) → ℕ
+by_tests f s x w = choose ((not (f || s), 0) ∷ (s, 1) ∷ (x, 3) ∷ (w, 4) ∷ []) 2
+
+given : {f s : Bool} → Kind f s → (x w g : Bool) → Given f s x w g (by_tests f s x w) (granted_mark g (by_tests f s x w))
 unfolding choose
-given none x w = record { none = refl; one = refl; bill = omega arith }
-given severe x w = record { none = refl; one = refl; bill = omega arith }
-given ordinary true w = record { none = refl; one = refl; bill = omega arith }
-given ordinary false true = record { none = refl; one = refl; bill = refl }
-given ordinary false false = record { none = refl; one = refl; bill = refl }
+given none x w true = record { none = refl; one = refl; bill = refl; monthly = refl; automatic = refl; granted = refl }
+given none x w false = record { none = refl; one = refl; bill = omega arith; monthly = refl; automatic = refl; granted = refl }
+given severe x w true = record { none = refl; one = refl; bill = refl; monthly = refl; automatic = refl; granted = refl }
+given severe x w false = record { none = refl; one = refl; bill = omega arith; monthly = refl; automatic = refl; granted = refl }
+given ordinary true w true = record { none = refl; one = refl; bill = refl; monthly = refl; automatic = refl; granted = refl }
+given ordinary true w false = record { none = refl; one = refl; bill = omega arith; monthly = refl; automatic = refl; granted = refl }
+given ordinary false true true = record { none = refl; one = refl; bill = refl; monthly = refl; automatic = refl; granted = refl }
+given ordinary false true false = record { none = refl; one = refl; bill = refl; monthly = refl; automatic = refl; granted = refl }
+given ordinary false false true = record { none = refl; one = refl; bill = refl; monthly = refl; automatic = refl; granted = refl }
+given ordinary false false false = record { none = refl; one = refl; bill = refl; monthly = refl; automatic = refl; granted = refl }
 
 -- a severe violation of the grouping e, and a waiver of it is free
 abbrev pub severe_in : Judged → (e i : ℕ) → Bool
@@ -52,8 +63,15 @@ abbrev pub free : Rules → Judged → (e i : ℕ) → Bool
 free P j e i = ltb (count i (left j e)) P.waivers
 
 module _ (P : Rules) (j : Judged) (i : ℕ) where
-  marked_by : Given (eqb (j.verdict i).code 4) (is_severe (j.verdict i).code) (j.exempt i) (free P j (j.grouping i) i) (mark P j i)
-  marked_by = given (kind (j.verdict i).code) (j.exempt i) _
+  marked_by : Given (eqb (j.verdict i).code 4) (is_severe (j.verdict i).code) (j.exempt i) (free P j (j.grouping i) i) (j.granted i) (mark_before P j i) (mark P j i)
+  marked_by = given (kind (j.verdict i).code) (j.exempt i) _ (j.granted i)
+
+  pub frees_none : (eqb (mark P j i) 3 ≡ eqb (mark_before P j i) 3) × (eqb (mark P j i) 4 ≡ eqb (mark_before P j i) 4)
+  frees_none = (marked_by.monthly, marked_by.automatic)
+
+  -- mark 5 stands where a grant names a place that cost
+  pub mark_granted : eqb (mark P j i) 5 ≡ j.granted i && is_billed (mark_before P j i)
+  mark_granted = marked_by.granted
 
   pub mark-none : eqb (mark P j i) 0 ≡ not (is_violation (j.verdict i).code)
   mark-none = marked_by.none
@@ -64,27 +82,35 @@ module _ (P : Rules) (j : Judged) (i : ℕ) where
         bit (eqb (j.grouping i) e && is_violation (j.verdict i).code)
         ≡ bit (eqb (j.grouping i) e && eqb (mark P j i) 3)
         + bit (eqb (j.grouping i) e && eqb (mark P j i) 4)
+        + bit (eqb (j.grouping i) e && eqb (mark P j i) 5)
         + bit (eqb (j.grouping i) e && is_billed (mark P j i))
     mark_one = go (eqb (j.grouping i) e)
       where
-        go : (g : Bool) → bit (g && is_violation (j.verdict i).code) ≡ bit (g && eqb (mark P j i) 3) + bit (g && eqb (mark P j i) 4) + bit (g && is_billed (mark P j i))
+        go : (g : Bool) → bit (g && is_violation (j.verdict i).code)
+            ≡ bit (g && eqb (mark P j i) 3) + bit (g && eqb (mark P j i) 4) + bit (g && eqb (mark P j i) 5) + bit (g && is_billed (mark P j i))
         go true = marked_by.one
         go false = refl
 
-    -- it is billed where it is severe, or left with no waiver free
-    pub mark_bill : bit (eqb (j.grouping i) e && is_billed (mark P j i)) ≡ bit (severe_in j e i) + (bit (left j e i) - bit (free P j e i))
+    -- it is billed where no grant names it and it is severe, or left with no waiver free
+    pub mark_bill : bit (eqb (j.grouping i) e && is_billed (mark P j i)) ≡ cond (j.granted i) 0 (bit (severe_in j e i) + (bit (left j e i) - bit (free P j e i)))
     mark_bill = go (eqb (j.grouping i) e) refl
       where
+        none : (n : Bool) → 0 ≡ cond n 0 (0 + (0 - bit (free P j e i)))
+        none true = refl
+        none false = omega arith
+
         go : (g : Bool) → eqb (j.grouping i) e ≡ g
-            → bit (g && is_billed (mark P j i)) ≡ bit (g && is_severe (j.verdict i).code) + (bit (g && (eqb (j.verdict i).code 4 && not (j.exempt i))) - bit (free P j e i))
+            → bit (g && is_billed (mark P j i))
+            ≡ cond (j.granted i) 0 (bit (g && is_severe (j.verdict i).code) + (bit (g && (eqb (j.verdict i).code 4 && not (j.exempt i))) - bit (free P j e i)))
         go true q = rw (← eqb-true (j.grouping i) e q) marked_by.bill
-        go false q = omega arith
+        go false q = none (j.granted i)
 
 -- two judgements that say the same of a place
 pub record Same (j k : Judged) (i : ℕ) : Type 0 where
   pub code : (j.verdict i).code ≡ (k.verdict i).code
   pub exempt : j.exempt i ≡ k.exempt i
   pub grouping : j.grouping i ≡ k.grouping i
+  pub granted : j.granted i ≡ k.granted i
 
 module _ (j k : Judged) (n : ℕ) (h : (i : ℕ) → i < n → Same j k i) where
   pub left_same : (e i : ℕ) → i < n → left j e i ≡ left k e i
@@ -93,4 +119,4 @@ module _ (j k : Judged) (n : ℕ) (h : (i : ℕ) → i < n → Same j k i) where
   pub mark_same : (P : Rules) (i : ℕ) → i < n → mark P j i ≡ mark P k i
   mark_same P i l =
       let e : (e : ℕ) → count i (left j e) ≡ count i (left k e) = λ e. sum_same i _ _ (λ m q. ap bit (left_same e m (lt_trans q l))) in
-      rw (e (j.grouping i), (h i l).code, (h i l).exempt, (h i l).grouping)
+      rw (e (j.grouping i), (h i l).code, (h i l).exempt, (h i l).grouping, (h i l).granted)

@@ -1,7 +1,9 @@
--- Lighter traffic: fewer messages, more lots (the premise of demand 3).
+-- Lighter traffic: fewer messages, more lots; and grants that name no severe place (the premises of demand 3).
 -- Assumes nothing.
-use Rattle.std.specs.Prelude.{ℕ, ◌≤◌, ◌<◌, true, ◌≡◌}
+use Rattle.std.specs.Prelude.{ℕ, ◌≤◌, ◌<◌, true, false, ◌≡◌}
+use Rattle.rules.specs.Verdict.{is_severe}
 use Rattle.rules.specs.Month.{Terms, DailyTotals}
+use Rattle.rules.specs.Marks.{places, Judged}
 use Rattle.rules.specs.declared.Totals.{Totals}
 
 -- raw count and score are no larger and lots no smaller in t' than in t
@@ -14,3 +16,7 @@ pub record Lighter (t' t : Totals) : Type 0 where
 pub record LighterMonth (s : Terms) (c' c : DailyTotals) : Type 0 where
   pub lighter : (g day : ℕ) → g < s.groups → s.in_effect day ≡ true → Lighter (c' g day) (c g day)
   pub kept : (g day : ℕ) → g < s.groups → s.in_effect day ≡ true → 0 < (c g day).raw → 0 < (c' g day).raw
+
+-- 2.6: no grant names one of the firm's days that is severe
+abbrev pub NoSevereGranted : Judged → Type 0
+NoSevereGranted j = (i : ℕ) → i < places → j.granted i ≡ true → is_severe (j.verdict i).code ≡ false

@@ -10,7 +10,6 @@ use lib.ListN.{length, get_or}
 use borrow.Author.Tests.{ltb-false}
 use Rattle.std.specs.Prelude.{Ok}
 use Rattle.std.proofs.lemmas.Result.{err_from_is_err_and}
-use Rattle.wire.specs.Lists.{table}
 use Rattle.wire.specs.Sums.{bit}
 use Rattle.wire.proofs.Lists.{table_at}
 use Rattle.wire.proofs.Sums.{sum_same}
@@ -25,7 +24,9 @@ use Rattle.lookup.specs.Lookup.{group_at}
 use Rattle.lookup.specs.InForce.{rules_of}
 use Rattle.lookup.specs.declared.Layout.{Layout}
 use Rattle.schedule.proofs.Good.{refused-good}
-use Rattle.month.specs.Month.{month_of, group_month, groups_of, firm_totals, firm_month, month_answer, MonthIs}
+use Rattle.month.specs.Month.{month_of, group_month, firm_totals, HeldMonth}
+use Rattle.grants.specs.Grants.{granted}
+use Rattle.grants.specs.Month.{granted_month, granted_answer, GrantedIs}
 use Rattle.statement.specs.Layout.{line_size, both_totals}
 use Rattle.statement.specs.Statement.{statement_bytes, need, statement_answer, StatementIs}
 use Rattle.month.specs.Parts.{no_group, held_group}
@@ -34,46 +35,45 @@ use Rattle.month.specs.declared.Month.{Month}
 use Rattle.statement.specs.Parts.{held_mark, held_factor, held_fields, held_need, held_shown, HeldIs}
 use Rattle.statement.proofs.Shown.{marks-count, bytes-length, shown_same}
 
-module _ (S B C out : List ℕ) where
-  -- 1 to 8, 21 and 22
-  pub is-refused : {n o : ℕ} → month_answer S B C ≡ refused n o → StatementIs S B C out (refused n o) out
+module _ (S B C G out : List ℕ) where
+  -- 1 to 8, 21, 22, 34 and 35
+  pub is-refused : {n o : ℕ} → granted_answer S B C G ≡ refused n o → StatementIs S B C G out (refused n o) out
   is-refused e = record { answer = rw e; output = rw e }
 
   -- a statement that is written has its two totals, and lies within the output
-  pub written_bounds : {n : ℕ} → statement_answer S B C out ≡ good n → (both_totals ≤ n) × (n ≤ length out)
-  written_bounds {n} e = go (month_answer S B C) refl
+  pub written_bounds : {n : ℕ} → statement_answer S B C G out ≡ good n → (both_totals ≤ n) × (n ≤ length out)
+  written_bounds {n} e = go (granted_answer S B C G) refl
     where
-      under : (l : Layout) → (b : Bool) → ltb (length out) (need (firm_month S B C l)) ≡ b
-          → cond b (refused 23 0) (good (length (statement_bytes S l (firm_month S B C l)))) ≡ good n
+      under : (l : Layout) → (b : Bool) → ltb (length out) (need (granted_month S B C G l)) ≡ b
+          → cond b (refused 23 0) (good (length (statement_bytes S l (granted_month S B C G l)))) ≡ good n
           → (both_totals ≤ n) × (n ≤ length out)
       under l true z w = absurd (refused-good w)
       under l false z w =
-          let j = firm_month S B C l in
+          let j = granted_month S B C G l in
           let fits = ltb-false (length out) (need j) z in
           let n-is : length (statement_bytes S l j) ≡ n = cc in
           let size = bytes-length S l j in
           (omega arith, omega arith)
 
-      go : (x : Outcome Layout) → month_answer S B C ≡ x → (both_totals ≤ n) × (n ≤ length out)
+      go : (x : Outcome Layout) → granted_answer S B C G ≡ x → (both_totals ≤ n) × (n ≤ length out)
       go (refused number offset) q = absurd (refused-good (rw q at e))
-      go (good l) q = under l (ltb (length out) (need (firm_month S B C l))) refl (rw q at e)
+      go (good l) q = under l (ltb (length out) (need (granted_month S B C G l))) refl (rw q at e)
 
 -- a month that holds the groups, verdicts and marks of a judged one
-module _ (S : List ℕ) (l : Layout) (c : DailyTotals) (m : Month)
-    (q : m.groups ≡ groups_of S l c) (r : m.verdicts ≡ table places (month_of S l c).verdict) (p : m.marks ≡ table places (mark (rules_of S) (month_of S l c))) where
+module _ (S : List ℕ) (l : Layout) (c : DailyTotals) (granted : (i : ℕ) → Bool) (m : Month) (held : HeldMonth S l c granted m) where
   abbrev j : Judged
-  j = month_of S l c
+  j = month_of S l c granted
 
   held-mark : (i : ℕ) → i < places → held_mark m i ≡ mark (rules_of S) j i
-  held-mark i h = rw p (table_at (mark (rules_of S) j) places i 0 h)
+  held-mark i h = rw held.marks (table_at (mark (rules_of S) j) places i 0 h)
 
   held-factor : (i : ℕ) → i < places → held_factor m i ≡ (j.verdict i).factor
   held-factor i h =
-      let v : get_or m.verdicts i not_judged ≡ j.verdict i = rw r (table_at j.verdict places i not_judged h) in
+      let v : get_or m.verdicts i not_judged ≡ j.verdict i = rw held.verdicts (table_at j.verdict places i not_judged h) in
       ap (λ (v : Verdict). v.factor) v
 
   held-group : (i : ℕ) → i < places → held_group m.groups i ≡ group_month S l c (group_of i)
-  held-group i h = rw q (table_at (group_month S l c) 32 (group_of i) no_group (omega arith))
+  held-group i h = rw held.groups (table_at (group_month S l c) 32 (group_of i) no_group (omega arith))
 
   held-fields : (i : ℕ) → i < places → held_fields S m (group_of i) ≡ group_at S l (group_of i)
   held-fields i h = ap (λ (g : GroupMonth). group_fields (body_at S g.start)) (held-group i h)
@@ -88,12 +88,11 @@ module _ (S : List ℕ) (l : Layout) (c : DailyTotals) (m : Month)
       shown_same (rules_of S) _ _ _ _ _ _ _ _ held-fields (λ i h. ap (λ (g : GroupMonth). g.grouping) (held-group i h)) held-mark held-factor
 
 -- what is written of a firm's month, or refused by 23, is the firm's statement
-pub stated : (S B C out : List ℕ) {m : Month} {a : Outcome ℕ} {out' : List ℕ} → MonthIs S B C (Ok m) → HeldIs S m out a out' → StatementIs S B C out a out'
-stated S B C out {m} told w =
+pub stated : (S B C G out : List ℕ) {m : Month} {a : Outcome ℕ} {out' : List ℕ} → GrantedIs S B C G (Ok m) → HeldIs S m out a out' → StatementIs S B C G out a out'
+stated S B C G out {m} told w =
     let e = sym told.answer in
-    let h = told.held in
-    let n = held_need_is S m.layout (firm_totals S B C m.layout) m h.groups h.verdicts h.marks in
-    let s = held_shown_is S m.layout (firm_totals S B C m.layout) m h.groups h.verdicts h.marks in
+    let n = held_need_is S m.layout (firm_totals S B C m.layout) (granted S m.layout C G) m told.held in
+    let s = held_shown_is S m.layout (firm_totals S B C m.layout) (granted S m.layout C G) m told.held in
     record { answer = rw e (rw (n, s) at w.answer); output = rw e (rw (n, s) at w.output) }
 
 -- a statement's answer

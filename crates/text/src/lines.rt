@@ -6,7 +6,7 @@ ghost use Rattle.text.specs.Lines.{refused_at, line_text, mark_word, violation_l
 use crate::Output;
 use statement::{
     LINE_DAY, LINE_DOLLARS, LINE_GROUP, LINE_MARK, TOTALS_AUTOMATIC, TOTALS_BILLED, TOTALS_DOLLARS,
-    TOTALS_GROUPING, TOTALS_MONTHLY, TOTALS_VIOLATIONS,
+    TOTALS_GRANTED, TOTALS_GROUPING, TOTALS_MONTHLY, TOTALS_VIOLATIONS,
 };
 use wire::{byte_at, bytes_at, u16_at, u32_at};
 
@@ -28,7 +28,8 @@ fn mark_word(mark: u8) -> &'static [u8]
         1 => b"severe",
         2 => b"billed",
         3 => b"monthly",
-        _ => b"automatic",
+        4 => b"automatic",
+        _ => b"granted",
     }
 }
 
@@ -77,6 +78,7 @@ impl Output<'_> {
         self.put_field(u64::from(u16_at(totals, TOTALS_VIOLATIONS)));
         self.put_field(u64::from(u16_at(totals, TOTALS_MONTHLY)));
         self.put_field(u64::from(u16_at(totals, TOTALS_AUTOMATIC)));
+        self.put_field(u64::from(u16_at(totals, TOTALS_GRANTED)));
         self.put_field(u64::from(u16_at(totals, TOTALS_BILLED)));
         self.put_field(u64::from(u32_at(totals, TOTALS_DOLLARS)));
     }

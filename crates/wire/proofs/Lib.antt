@@ -4,6 +4,7 @@ pub mod Choose
 pub mod Sums
 pub mod Lists
 pub mod Bytes
+pub mod Tables
 pub mod Folds
 pub mod Cut
 pub mod Calls

@@ -1,7 +1,7 @@
 -- Each call answers whether its place has a number above the limit.
 use Rattle.std.proofs.Common.{rules, refl}
 use Rattle.month.specs.Month.{any_excess}
-use Rattle.month.proofs.Calls.{some_found}
+use Rattle.wire.proofs.Calls.{some_found}
 use Rattle.month.proofs.days.has_excess.Goals as goal
 
 pub returns : goal.returns

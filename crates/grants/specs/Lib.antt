@@ -1,0 +1,4 @@
+pub mod Grants
+pub mod Month
+pub mod Parts
+pub mod Example
