@@ -22,7 +22,7 @@ use Rattle.book.specs.Book.{check_book}
 use Rattle.month.specs.Month.{month_of, firm_totals, month_answer, HeldMonth, MonthIs}
 use Rattle.month.specs.declared.Month.{Month}
 use Rattle.month.proofs.Answers.{judged-book}
-use Rattle.grants.specs.Grants.{grants_in, grant_at, is_whole, is_known, grant_causes, grants_causes, granted}
+use Rattle.grants.specs.Grants.{grants_in, grant_at, is_whole, has_cell, grant_causes, grants_causes, named}
 use Rattle.grants.specs.Month.{granted_answer, GrantedIs}
 use Rattle.grants.specs.Parts.{with_grants}
 
@@ -41,7 +41,7 @@ one false false = taken
 pub comes_to : (S : List ℕ) (l : Layout) (G : List ℕ) → ComesTo (choose (grants_causes S l G) 0)
 comes_to S l G =
     kept (λ k. grant_causes S l (grant_at G k)) (λ k. refl) ComesTo taken
-    (λ k. one (not (is_whole (grant_at G k))) (not (is_known S l (grant_at G k))))
+    (λ k. one (not (is_whole (grant_at G k))) (not (has_cell S l (grant_at G k))))
     (grants_in G)
 
 -- no grants are taken
@@ -90,7 +90,7 @@ given_marks S l c named m h =
 
 -- so a month whose grants are taken, with these marks, is the firm's with its grants
 pub held-granted : {S B C G : List ℕ} {m : Month} → MonthIs S B C (Ok m) → choose (grants_causes S m.layout G) 0 ≡ 0
-    → (marks : List ℕ) → marks ≡ with_grants (granted S m.layout C G) m.marks → GrantedIs S B C G (Ok (record m { marks = marks }))
+    → (marks : List ℕ) → marks ≡ with_grants (named S m.layout C G) m.marks → GrantedIs S B C G (Ok (record m { marks = marks }))
 held-granted {S} {B} {C} {G} {m} told c marks e =
     let h = told.held in
     record {
@@ -99,6 +99,6 @@ held-granted {S} {B} {C} {G} {m} told c marks e =
         layout = h.layout;
         groups = h.groups;
         verdicts = h.verdicts;
-        marks = e ∙ given_marks S m.layout (firm_totals S B C m.layout) (granted S m.layout C G) m h;
+        marks = e ∙ given_marks S m.layout (firm_totals S B C m.layout) (named S m.layout C G) m h;
       };
     }

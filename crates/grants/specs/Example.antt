@@ -13,7 +13,7 @@ use Rattle.lookup.specs.Lookup.{group_start, group_is, firm_is, group_listed, fi
 use Rattle.lookup.specs.declared.Layout.{Layout}
 use Rattle.schedule.specs.Check.{nothing, check_of, scan, ending, with_record, cause, is_repeated, fields_ok, is_full, length_ok, is_due, kind_of}
 use Rattle.accepted.specs.Samples.{head, group, ABC, firm}
-use Rattle.grants.specs.Grants.{grant_kind, grant_size, grants_causes, granted}
+use Rattle.grants.specs.Grants.{grant_kind, grant_size, grants_causes, named}
 
 -- a grant to the firm with the code C, of a day and a group
 abbrev pub grant : (C : List ℕ) → (day first second : ℕ) → List ℕ
@@ -63,11 +63,11 @@ pub record Example : Type 0 where
   pub earlier_35 : refusing (three ++ unlisted ++ wrong_kind) ≡ 35
   pub earlier_34 : refusing (three ++ wrong_kind ++ unlisted) ≡ 34
   -- a grant of another firm names no place of this one; day 3 in CL is place 2 × 32 + 1, day 4 in ES place 3 × 32
-  pub own : granted S l ABC three 65 ≡ true
-  pub others : granted S l ABC three 96 ≡ false
-  pub theirs : granted S l XYZ three 96 ≡ true
-  pub other_group : granted S l ABC three 64 ≡ false
-  pub other_day : granted S l ABC three 97 ≡ false
+  pub own : named S l ABC three 65 ≡ true
+  pub others : named S l ABC three 96 ≡ false
+  pub theirs : named S l XYZ three 96 ≡ true
+  pub other_group : named S l ABC three 64 ≡ false
+  pub other_day : named S l ABC three 97 ≡ false
 
 pub example : Example
 unfolding check_of scan ending with_record cause is_repeated fields_ok is_full length_ok is_due kind_of firm_listed group_listed firm_is group_is group_start

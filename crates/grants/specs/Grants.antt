@@ -33,12 +33,12 @@ is_whole R = all (eqb (length R) grant_size ∷ eqb (length_at R 0) grant_size �
 
 module _ (S : List ℕ) (l : Layout) where
   -- 2.6: a grant with a listed firm and group, and a day in the month
-  abbrev pub is_known : (R : List ℕ) → Bool
-  is_known R = all (firm_listed S l (firm_code R) ∷ group_listed S l (group_code R) ∷ has_day l.month (day R) ∷ [])
+  abbrev pub has_cell : (R : List ℕ) → Bool
+  has_cell R = all (firm_listed S l (firm_code R) ∷ group_listed S l (group_code R) ∷ has_day l.month (day R) ∷ [])
 
   -- Numbers of refusal, 2.6: 34, a grant that is cut or has wrong kind or length; 35, a grant with an unlisted firm or group, or a day not in the month
   abbrev pub grant_causes : (R : List ℕ) → List (Bool × ℕ)
-  grant_causes R = (not (is_whole R), 34) ∷ (not (is_known R), 35) ∷ []
+  grant_causes R = (not (is_whole R), 34) ∷ (not (has_cell R), 35) ∷ []
 
   -- 2.6: grant by grant
   abbrev pub grants_causes : (G : List ℕ) → List (Bool × ℕ)
@@ -55,5 +55,5 @@ module _ (S : List ℕ) (l : Layout) where
       ∷ [])
 
   -- 2.6: a grant of the list names place i; a grant named twice works once
-  abbrev pub granted : (C G : List ℕ) → (i : ℕ) → Bool
-  granted C G i = some (grants_in G) (λ k. names C i (grant_at G k))
+  abbrev pub named : (C G : List ℕ) → (i : ℕ) → Bool
+  named C G i = some (grants_in G) (λ k. names C i (grant_at G k))

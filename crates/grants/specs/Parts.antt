@@ -5,7 +5,7 @@ use Rattle.wire.specs.Lists.{table}
 use Rattle.rules.specs.Marks.{places, granted_mark}
 use Rattle.lookup.specs.Lookup.{group_listed, group_place}
 use Rattle.lookup.specs.declared.Layout.{Layout}
-use Rattle.grants.specs.Grants.{grants_causes, granted}
+use Rattle.grants.specs.Grants.{grants_causes, named}
 use Rattle.grants.specs.declared.list.Grants.{Grants}
 
 -- the causes of a list under its schedule
@@ -14,7 +14,7 @@ causes_of g = grants_causes g.schedule.bytes.now g.schedule.layout g.bytes.now
 
 -- the places that it names to a firm
 abbrev pub named_by : Grants → (C : List ℕ) → (i : ℕ) → Bool
-named_by g C = granted g.schedule.bytes.now g.schedule.layout C g.bytes.now
+named_by g C = named g.schedule.bytes.now g.schedule.layout C g.bytes.now
 
 -- a group code's group stands at place g among the groups
 abbrev pub stands_at : (S : List ℕ) → Layout → (C : List ℕ) → (g : ℕ) → Bool

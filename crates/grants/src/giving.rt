@@ -1,4 +1,4 @@
-// A firm's grants are given: marks that cost become 5.
+// A firm's grants are given: a mark that costs becomes 5 where a grant names its place.
 ghost use Rattle.std.specs.Prelude.{◌≡◌, ◌<◌, get_or};
 ghost use Rattle.rules.specs.Marks.{places, granted_mark};
 ghost use Rattle.grants.specs.Grants.{names};
@@ -10,7 +10,7 @@ use rules::{GROUPS, PLACES, is_billed};
 use std::array;
 use wire::{byte_at, bytes_at};
 
-// The mark of a place that a grant names.
+// The mark of a place that would cost and that a grant names.
 const GRANTED: u8 = 5;
 
 impl Grants<'_> {

@@ -3,7 +3,7 @@ ghost use Rattle.std.specs.Prelude.{◌≡◌, ◌≤◌, ◌<◌, length, take,
 ghost use Rattle.wire.specs.Choose.{choose};
 ghost use Rattle.activity.specs.Activity.{firm_code};
 ghost use Rattle.refusals.specs.Outcome.{cause_number};
-ghost use Rattle.grants.specs.Grants.{grants_in, grant_at, is_whole, is_known, grant_causes};
+ghost use Rattle.grants.specs.Grants.{grants_in, grant_at, is_whole, has_cell, grant_causes};
 ghost use Rattle.grants.specs.Parts.{causes_of};
 
 use activity::{DAY, FIRM_CODE, GROUP_CODE};
@@ -67,8 +67,8 @@ impl<'a> Grants<'a> {
 
     // The grant's firm and group are listed, and its day is in the month.
     #[tactic(auto, using(lookup::proofs::Laws::some_found), unfolding(wire::specs::Choose::all, wire::specs::Lists::joined, lookup::specs::Lookup::firm_found, lookup::specs::Lookup::group_found))]
-    fn is_known(&self, grant: &[u8]) -> bool
-        ensures { result ≡ is_known self.now.schedule.bytes.now self.now.schedule.layout grant.now }
+    fn has_cell(&self, grant: &[u8]) -> bool
+        ensures { result ≡ has_cell self.now.schedule.bytes.now self.now.schedule.layout grant.now }
     {
         self.schedule.find_firm(firm_code(grant)).is_some()
             & self
@@ -86,8 +86,8 @@ impl<'a> Grants<'a> {
         if !is_whole(grant) {
             return Err(Cause::MalformedGrant);
         }
-        if !self.is_known(grant) {
-            return Err(Cause::UnknownGrant);
+        if !self.has_cell(grant) {
+            return Err(Cause::NoSuchCell);
         }
         Ok(())
     }

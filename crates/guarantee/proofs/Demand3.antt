@@ -21,7 +21,7 @@ use Rattle.wire.proofs.Sums.{sum_same, sum_add, count_most}
 use Rattle.calendar.specs.Calendar.{days_in}
 use Rattle.rules.specs.Verdict.{version96, is_violation}
 use Rattle.rules.specs.Month.{DailyTotals}
-use Rattle.rules.specs.Marks.{places, day_of, group_of, Judged, is_billed, granted_mark, mark_before, mark, violations, marked, billed, amount}
+use Rattle.rules.specs.Marks.{places, day_of, group_of, Judged, is_billed, granted_mark, mark_without_grants, mark, violations, marked, billed, amount}
 use Rattle.rules.specs.Laws.{Laws}
 use Rattle.rules.proofs.Bills.{none_granted}
 use Rattle.rules.proofs.Laws.{falling96, laws as rules_laws}
@@ -41,7 +41,7 @@ use Rattle.month.specs.Month.{terms, month_of, any_excess, firm_cells, month_ans
 use Rattle.month.specs.Parts.{ListedAt, Grouped}
 use Rattle.month.proofs.Answers.{is_judged}
 use Rattle.month.proofs.Waivers.{month_grouped, one_or_two}
-use Rattle.grants.specs.Grants.{grants_causes, granted}
+use Rattle.grants.specs.Grants.{grants_causes, named}
 use Rattle.grants.specs.Month.{granted_month, granted_answer}
 use Rattle.grants.proofs.Answers.{ComesTo, taken, by_34, by_35, comes_to, none-refused, is_34_35, is_taken}
 use Rattle.statement.specs.Layout.{line_size, totals_size, both_totals, violations_at, monthly_at, automatic_at, granted_at, billed_at}
@@ -209,9 +209,9 @@ module _ (S C : List ℕ) (l : Layout) (e : check_of S ≡ good l) where
 
       -- else it is that of its accepted totals and its grants
       stated : choose (grants_causes S l G) 0 ≡ 0 → (statement_answer S after C G out ≡ refused 23 0 → ⊥)
-          → Written S after C G out l (month_of S l (accepted S rs (firm_place S l C)) (granted S l C G))
+          → Written S after C G out l (month_of S l (accepted S rs (firm_place S l C)) (named S l C G))
       stated c enough =
-          subst (λ (x : FirmCells). Written S after C G out l (month_of S l (cell_totals x) (granted S l C G))) held
+          subst (λ (x : FirmCells). Written S after C G out l (month_of S l (cell_totals x) (named S l C G))) held
           (written S after C G out l (is_taken S after C G judged_after c) enough)
 
 -- what is good is one thing
@@ -249,7 +249,7 @@ module _ (S C : List ℕ) (listed : is_listed S C ≡ true) where
       go e by_35 = absurd (t.not_35 (refused_by p e (λ z. omega (arith, z))))
 
   -- and no others have none
-  no_cause_taken : (p : Run S C) → cause_of p ≡ 0 → GrantsTaken S C p
+  pub no_cause_taken : (p : Run S C) → cause_of p ≡ 0 → GrantsTaken S C p
   no_cause_taken p c =
       record { not_34 = λ e. refused-good (sym e ∙ (run p c).answer); not_35 = λ e. refused-good (sym e ∙ (run p c).answer) }
 
@@ -278,7 +278,7 @@ module _ (S C : List ℕ) (listed : is_listed S C ≡ true) where
         let laws = book_laws S (opens S p.book p.opened).schedule in
         let alike : totals_after S C p.posts ≡ totals_after S C q.posts =
         ap cell_totals (laws.own_only C _ p.posts q.posts (place_found S C (layout S) listed) h) in
-        ap₂ (λ (c : DailyTotals) (G : List ℕ). statement_bytes S (layout S) (month_of S (layout S) c (granted S (layout S) C G))) alike g
+        ap₂ (λ (c : DailyTotals) (G : List ℕ). statement_bytes S (layout S) (month_of S (layout S) c (named S (layout S) C G))) alike g
 
     cause_same : cause_of q ≡ cause_of p
     cause_same = ap (λ (G : List ℕ). choose (grants_causes S (layout S) G) 0) (sym g)
@@ -315,7 +315,7 @@ module _ (S C : List ℕ) (listed : is_listed S C ≡ true) where
     lighter : (e : ℕ) → amount_of S C q e ≤ amount_of S C p e
     lighter e =
         let falls = laws96.lighter_amount (terms S (layout S)) (totals_after S C q.posts) (totals_after S C p.posts) in
-        subst (λ (G : List ℕ). amount_after S C q.posts G e ≤ amount_of S C p e) g.same (falls (granted S (layout S) C p.grants) h g.none_severe e)
+        subst (λ (G : List ℕ). amount_after S C q.posts G e ≤ amount_of S C p e) g.same (falls (named S (layout S) C p.grants) h g.none_severe e)
 
     lighter_dollars : DollarsFall S C p q
     lighter_dollars =
@@ -337,15 +337,15 @@ demand3 S C listed =
 
 -- no grants are taken, and name no place
 module _ (S C : List ℕ) (listed : is_listed S C ≡ true) where
-  none_named : (i : ℕ) → granted S (layout S) C [] i ≡ false
+  none_named : (i : ℕ) → named S (layout S) C [] i ≡ false
   unfolding seek_in
   none_named i = refl
 
   none-cause : (p : Run S C) → p.grants ≡ [] → cause_of S C listed p ≡ 0
   none-cause p e = ap (λ (G : List ℕ). choose (grants_causes S (layout S) G) 0) e ∙ none-refused S (layout S)
 
-  not_granted : (p : Run S C) → p.grants ≡ [] → (i : ℕ) → (month S C p).granted i ≡ false
-  not_granted p e i = ap (λ (G : List ℕ). granted S (layout S) C G i) e ∙ none_named i
+  not_granted : (p : Run S C) → p.grants ≡ [] → (i : ℕ) → (month S C p).named i ≡ false
+  not_granted p e i = ap (λ (G : List ℕ). named S (layout S) C G i) e ∙ none_named i
 
   same_none : (p q : Run S C) → p.grants ≡ [] → q.grants ≡ [] → SameGrants S C p q
   same_none p q e f =
@@ -358,7 +358,7 @@ module _ (S C : List ℕ) (listed : is_listed S C ≡ true) where
   pub without_grants : WithoutGrants S C
   without_grants =
       record {
-        marks = λ p e i. ap (λ (b : Bool). granted_mark b (mark_before (rules_of S) (month S C p) i)) (not_granted p e i);
+        marks = λ p e i. ap (λ (b : Bool). granted_mark b (mark_without_grants (rules_of S) (month S C p) i)) (not_granted p e i);
         none_granted = λ p e f. none_granted (rules_of S) (month S C p) f (not_granted p e);
         falls = λ p q e f h. lighter S C listed p q h (same_none p q e f);
         dollars_fall = λ p q e f h. lighter_dollars S C listed p q h (same_none p q e f);

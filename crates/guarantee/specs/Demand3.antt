@@ -5,8 +5,8 @@
 -- Assumes nothing.
 use Rattle.std.specs.Prelude.{ℕ, ◌+◌, ◌*◌, ◌≤◌, Bool, true, List, [], ◌≡◌, take, drop}
 use Rattle.rules.specs.Month.{DailyTotals}
-use Rattle.rules.specs.Marks.{Judged, mark_before, mark, violations, marked, billed, amount}
-use Rattle.rules.specs.Lighter.{LighterMonth, NoSevereGranted}
+use Rattle.rules.specs.Marks.{Judged, mark_without_grants, mark, violations, marked, billed, amount}
+use Rattle.rules.specs.Lighter.{LighterMonth, NoSevereNamed}
 use Rattle.rules.specs.declared.Rules.{Rules}
 use Rattle.records.specs.Bodies.{length_at, kind_at}
 use Rattle.refusals.specs.Outcome.{Outcome, refused, good, given}
@@ -17,7 +17,7 @@ use Rattle.lookup.specs.declared.Layout.{Layout}
 use Rattle.book.specs.Book.{open_answer, open_book}
 use Rattle.accepted.specs.Accepted.{accepted, own, of_bytes, posted}
 use Rattle.month.specs.Month.{terms, month_of}
-use Rattle.grants.specs.Grants.{granted}
+use Rattle.grants.specs.Grants.{named}
 use Rattle.statement.specs.Layout.{line_size, totals_size, both_totals, totals_kind, totals_grouping, totals_zero, totals_violations, totals_monthly, totals_automatic, totals_granted, totals_billed, totals_dollars}
 use Rattle.statement.specs.Statement.{statement_answer, statement_output}
 
@@ -34,9 +34,9 @@ module _ (S C : List ℕ) where
   abbrev pub totals_after : (rs : List (List ℕ)) → DailyTotals
   totals_after rs = accepted S rs (firm_place S (layout S) C)
 
-  -- Codes, exemptions and marks are worked out from its accepted totals by the rules in force; 2.6: and from its grants
+  -- Codes, exemptions and marks are worked out from its accepted totals by the rules in force; 2.6: marks from its grants too
   abbrev pub month_after : (rs : List (List ℕ)) → (G : List ℕ) → Judged
-  month_after rs G = month_of S (layout S) (totals_after rs) (granted S (layout S) C G)
+  month_after rs G = month_of S (layout S) (totals_after rs) (named S (layout S) C G)
 
   -- A firm's amount in a grouping is the sum of what the marks of its violations there cost; 2.6: with the grants counted
   abbrev pub amount_after : (rs : List (List ℕ)) → (G : List ℕ) → (e : ℕ) → ℕ
@@ -83,7 +83,7 @@ module _ (S C : List ℕ) where
   pub record SameGrants (first second : Run) : Type 0 where
     pub same : first.grants ≡ second.grants
     pub taken : GrantsTaken first
-    pub none_severe : NoSevereGranted (month first)
+    pub none_severe : NoSevereNamed (month first)
 
 -- a totals record T of the grouping e: each number is the one that document 01 says it is, of the month j under the rules P
 pub record TotalsAre (P : Rules) (T : List ℕ) (e : ℕ) (j : Judged) : Type 0 where
@@ -134,8 +134,8 @@ pub record SameStatement (S C : List ℕ) (p q : Run S C) : Type 0 where
   pub bytes : (written : ℕ) → answer_of S C p ≡ good written → take written (output_of S C p) ≡ take written (output_of S C q)
 
 pub record Demand3 (S C : List ℕ) : Type 0 where
-  -- the firm's amount never rises in either exchange grouping as traffic falls, whatever the others sent; 2.6: and with grants that are the same, and
-  -- name no severe day
+  -- the firm's amount never rises in either exchange grouping as traffic falls, whatever the others sent; 2.6: with the same grants, which 34 and 35
+  -- don't refuse, and none of which names a day that was severe
   pub falls : (p q : Run S C) → Falls S C p.posts q.posts → SameGrants S C p q → (e : ℕ) → amount_of S C q e ≤ amount_of S C p e
   -- nor do the dollars in its statement
   pub dollars_fall : (p q : Run S C) → Falls S C p.posts q.posts → SameGrants S C p q → DollarsFall S C p q
@@ -155,7 +155,7 @@ pub record SameBytes (S C : List ℕ) (p q : Run S C) : Type 0 where
 -- without grants it is the claim as it stood before 2.6
 pub record WithoutGrants (S C : List ℕ) : Type 0 where
   -- every mark is that without grants, and none is 5
-  pub marks : (p : Run S C) → p.grants ≡ [] → (i : ℕ) → mark (rules_of S) (month S C p) i ≡ mark_before (rules_of S) (month S C p) i
+  pub marks : (p : Run S C) → p.grants ≡ [] → (i : ℕ) → mark (rules_of S) (month S C p) i ≡ mark_without_grants (rules_of S) (month S C p) i
   pub none_granted : (p : Run S C) → p.grants ≡ [] → (e : ℕ) → marked (rules_of S) (month S C p) e 5 ≡ 0
   pub falls : (p q : Run S C) → p.grants ≡ [] → q.grants ≡ [] → Falls S C p.posts q.posts → (e : ℕ) → amount_of S C q e ≤ amount_of S C p e
   pub dollars_fall : (p q : Run S C) → p.grants ≡ [] → q.grants ≡ [] → Falls S C p.posts q.posts → DollarsFall S C p q

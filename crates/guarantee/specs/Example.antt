@@ -3,13 +3,14 @@
 -- that no raw count above zero becomes zero; (document 02, 2.3) one whose amount rises by activity and falls by a correction; and (2.6) the run's
 -- statement with grants, and two pairs of months that show why demand 3 asks that the grants are the same and name no severe day.
 -- Assumes nothing.
-use Rattle.std.specs.Prelude.{ℕ, ◌+◌, ◌*◌, Bool, ◌&&◌, ◌||◌, List, [], ◌∷◌, ◌++◌, ◌≡◌, refl, leb, ltb, take}
+use Rattle.std.specs.Prelude.{ℕ, ◌+◌, ◌*◌, Bool, true, not, ◌&&◌, ◌||◌, List, [], ◌∷◌, ◌++◌, ◌≡◌, refl, leb, ltb, take}
 use Rattle.wire.specs.Bytes.{u16_at, u32_at}
 use Rattle.wire.specs.Choose.{choose, all, seek_in}
 use Rattle.wire.specs.Lists.{joined, table}
 use Rattle.wire.specs.Sums.{sum, count}
 use Rattle.calendar.specs.Calendar.{days_in}
-use Rattle.rules.specs.Verdict.{verdict}
+use Rattle.rules.specs.Verdict.{verdict, is_severe}
+use Rattle.rules.specs.Marks.{places, Judged}
 use Rattle.rules.specs.declared.Totals.{Totals}
 use Rattle.records.specs.Fields.{head_fields, head_ok, group_fields, group_in_range, is_letter, firm_fields, firm_ok, has_code}
 use Rattle.contracts.specs.Listing.{contracts_ok, contract_bad, before, contract, listed}
@@ -25,11 +26,12 @@ use Rattle.book.specs.Post.{taking}
 use Rattle.accepted.specs.Accepted.{accepted_cells, posted}
 use Rattle.accepted.specs.Samples.{head, group, ABC, firm, activity, correction}
 use Rattle.month.specs.Month.{any_excess, month_answer}
+use Rattle.grants.specs.Grants.{grants_causes}
 use Rattle.grants.specs.Month as months
 use Rattle.grants.specs.Example.{grant}
 use Rattle.statement.specs.Lines.{line_at, tally, shown}
 use Rattle.statement.specs.Statement.{statement_answer, statement_output}
-use Rattle.guarantee.specs.Demand3.{layout, totals_after, amount_after, Falls}
+use Rattle.guarantee.specs.Demand3.{layout, is_listed, totals_after, month_after, amount_after, Run, Falls, SameGrants}
 
 -- document 01's schedule: October 2019, every day in effect, ES of grouping 1, ABC
 abbrev pub schedule : List ℕ
@@ -153,13 +155,21 @@ reported = early ++ fifth 69 83 3 10000 ∷ []
 abbrev pub amended : List (List ℕ)
 amended = reported ++ correction 69 83 3 1 122000 143000 20000 ∷ []
 
--- a severe day, which is granted, and two that are waived
+-- a severe day, which a grant will name, and two that are waived
 abbrev severe_first : List (List ℕ)
 severe_first = ninth 69 83 1 ∷ fifth 69 83 2 10000 ∷ fifth 69 83 3 10000 ∷ []
 
 -- with one message of the first less in its score, it is ordinary (60,001, 60,000, 1,000: the eighth marked day)
 abbrev milder_first : List (List ℕ)
 milder_first = orders 69 83 1 1 60000 0 1000 ∷ fifth 69 83 2 10000 ∷ fifth 69 83 3 10000 ∷ []
+
+-- grants for an automatic and the billed day of the run
+abbrev pub some_days : List ℕ
+some_days = grant ABC 1 69 83 ++ grant ABC 3 69 83
+
+-- no grant names place i, or it is not severe
+abbrev pub is_spared : Judged → (i : ℕ) → Bool
+is_spared j i = not (j.named i && is_severe (j.verdict i).code)
 
 -- a book with this edition in the cell of day 1, and else as open leaves it
 abbrev with_edition : (n : ℕ) → List ℕ
@@ -217,10 +227,15 @@ pub record Example : Type 0 where
   -- 2.6: and where the grants differ, though no message does: day 3 is billed without its grant
   pub with_grant : amount_after schedule ABC run (grant ABC 3 69 83) 1 ≡ 1000
   pub without_grant : amount_after schedule ABC run [] 1 ≡ 2000
+  -- 2.6: grants of a listed firm that 34 and 35 don't refuse, and that name no severe day of the run
+  pub is_firm : is_listed schedule ABC ≡ true
+  pub some_taken : choose (grants_causes schedule (layout schedule) some_days) 0 ≡ 0
+  pub some_spared : count places (is_spared (month_after schedule ABC run some_days)) ≡ places
 
--- so demand 3 applies to the first pair, and to the correction: proved in proofs/Applied.antt
+-- so demand 3 applies to the first pair, with those grants, and to the correction: proved in proofs/Applied.antt
 pub record Applies : Type 0 where
   pub lots : Falls schedule ABC run eased
+  pub grants : (p q : Run schedule ABC) → p.posts ≡ run → p.grants ≡ some_days → q.grants ≡ some_days → SameGrants schedule ABC p q
   pub correction : Falls schedule ABC reported amended
 
 pub example : Example
@@ -261,4 +276,7 @@ example =
       milder_granted = refl;
       with_grant = refl;
       without_grant = refl;
+      is_firm = refl;
+      some_taken = refl;
+      some_spared = refl;
     }

@@ -28,8 +28,8 @@ terms S l =
     }
 
 -- The month: a firm's verdicts, exemptions and groupings, from its totals and by the rules in force; 2.6: and the places that its grants name
-abbrev pub month_of : (S : List ℕ) → Layout → DailyTotals → (granted : (i : ℕ) → Bool) → Judged
-month_of S l c granted = judged (rules_of S) (terms S l) c granted
+abbrev pub month_of : (S : List ℕ) → Layout → DailyTotals → (named : (i : ℕ) → Bool) → Judged
+month_of S l c named = judged (rules_of S) (terms S l) c named
 
 -- Numbers of refusal, 22: a number of that firm, days of the month, above 10,000,000,000; here on the day and in the group of place i
 abbrev pub is_excess : Layout → FirmCells → (i : ℕ) → Bool
@@ -69,12 +69,12 @@ abbrev pub groups_of : (S : List ℕ) → Layout → DailyTotals → List GroupM
 groups_of S l c = table most_groups (group_month S l c)
 
 -- a firm's month as it is held, for the totals c and the places that its grants name: place by place and group by group
-pub record HeldMonth (S : List ℕ) (l : Layout) (c : DailyTotals) (granted : (i : ℕ) → Bool) (m : Month) : Type 0 where
+pub record HeldMonth (S : List ℕ) (l : Layout) (c : DailyTotals) (named : (i : ℕ) → Bool) (m : Month) : Type 0 where
   pub layout : m.layout ≡ l
   pub groups : m.groups ≡ groups_of S l c
   -- 2.1: what uses a verdict passes the factor on
-  pub verdicts : m.verdicts ≡ table places (month_of S l c granted).verdict
-  pub marks : m.marks ≡ table places (mark (rules_of S) (month_of S l c granted))
+  pub verdicts : m.verdicts ≡ table places (month_of S l c named).verdict
+  pub marks : m.marks ≡ table places (mark (rules_of S) (month_of S l c named))
 
 -- what the call's answer means: a refusal, or what the schedule holds
 abbrev pub month_meaning : Result Month Refusal → Outcome Layout

@@ -55,7 +55,7 @@ number_of cause.Superseded = 32
 number_of cause.ImpossibleMinimum = 33
 -- 2.6: a statement's grants
 number_of cause.MalformedGrant = 34
-number_of cause.UnknownGrant = 35
+number_of cause.NoSuchCell = 35
 
 -- Numbers of refusal, from 8 on: a cause has the offset 0
 abbrev pub at_front : Cause → Refusal

@@ -53,7 +53,7 @@ pub enum Cause {
     // Of a statement's grant: it is cut, or has the wrong kind or length.
     MalformedGrant,
     // Its firm or group is unlisted, or its day is not in the month.
-    UnknownGrant,
+    NoSuchCell,
 }
 
 impl Cause {
@@ -85,7 +85,7 @@ impl Cause {
             Cause::Superseded => 32,
             Cause::ImpossibleMinimum => 33,
             Cause::MalformedGrant => 34,
-            Cause::UnknownGrant => 35,
+            Cause::NoSuchCell => 35,
         }
     }
 }

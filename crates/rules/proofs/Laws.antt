@@ -25,7 +25,7 @@ laws P F =
       lighter_code =
           λ B d t' t h. record { violation = follows (violation_falls P F (eased h) B); severe = follows (severe_falls P F (eased h) B) };
       lighter_exempt = λ s c' c h g hg. follows (exempt_stays P F s c' c h g hg);
-      lighter_amount = λ s c' c granted h. amount_lighter P F s c' c h granted;
+      lighter_amount = λ s c' c named h. amount_lighter P F s c' c h named;
       frees_none = frees_none P;
       adds_up = adds_up P;
       dollars = dollars P;

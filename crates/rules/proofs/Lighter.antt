@@ -15,7 +15,7 @@ use Rattle.wire.proofs.Sums.{sum_le}
 use Rattle.rules.specs.Verdict.{not_judged, Falling, is_violation, is_severe}
 use Rattle.rules.specs.Month.{Terms, DailyTotals, counted, over_counted, days, sums, exempt}
 use Rattle.rules.specs.Marks.{day_of, group_of, judged, amount}
-use Rattle.rules.specs.Lighter.{Lighter, LighterMonth, NoSevereGranted}
+use Rattle.rules.specs.Lighter.{Lighter, LighterMonth, NoSevereNamed}
 use Rattle.rules.specs.declared.Rules.{Rules}
 use Rattle.rules.specs.declared.Totals.{Totals}
 use Rattle.rules.specs.declared.Verdict.{Verdict}
@@ -84,10 +84,10 @@ module _ (P : Rules) (F : Falling P) (s : Terms) (c' c : DailyTotals) (h : Light
       rw (exempt_code P (s.benchmark g) (days s c g) (sums s c g), exempt_code P (s.benchmark g) (days s c' g) (sums s c' g))
       (not-⇒ (violation_falls P F (sums-eased s c' c h g hg) (s.benchmark g)))
 
-  pub amount_lighter : (granted : (i : ℕ) → Bool) → NoSevereGranted (judged P s c granted) → (e : ℕ)
-      → amount P (judged P s c' granted) e ≤ amount P (judged P s c granted) e
-  amount_lighter granted spared e =
-      amount_falls P e (judged P s c' granted) (judged P s c granted) (λ i. refl) spared
+  pub amount_lighter : (named : (i : ℕ) → Bool) → NoSevereNamed (judged P s c named) → (e : ℕ)
+      → amount P (judged P s c' named) e ≤ amount P (judged P s c named) e
+  amount_lighter named spared e =
+      amount_falls P e (judged P s c' named) (judged P s c named) (λ i. refl) spared
       (λ i. placed (eqb (s.grouping (group_of i)) e) (ltb (group_of i) s.groups && s.in_effect (day_of i)) _ _ _ _
       (λ q. let hg = ltb-true _ _ (first_so (ltb (group_of i) s.groups) _ q) in
       let l = h.lighter (group_of i) (day_of i) hg (second_so (ltb (group_of i) s.groups) _ q) in

@@ -12,7 +12,7 @@ use Rattle.wire.specs.Choose.{choose}
 use Rattle.wire.specs.Sums.{bit, count}
 use Rattle.wire.proofs.Sums.{sum_same}
 use Rattle.rules.specs.Verdict.{is_violation, is_severe}
-use Rattle.rules.specs.Marks.{Judged, left, is_billed, granted_mark, mark_before, mark}
+use Rattle.rules.specs.Marks.{Judged, left, is_billed, granted_mark, mark_without_grants, mark}
 use Rattle.rules.specs.declared.Rules.{Rules}
 
 -- a code is 4, 5 or neither: f and s are those tests
@@ -63,14 +63,14 @@ abbrev pub free : Rules → Judged → (e i : ℕ) → Bool
 free P j e i = ltb (count i (left j e)) P.waivers
 
 module _ (P : Rules) (j : Judged) (i : ℕ) where
-  marked_by : Given (eqb (j.verdict i).code 4) (is_severe (j.verdict i).code) (j.exempt i) (free P j (j.grouping i) i) (j.granted i) (mark_before P j i) (mark P j i)
-  marked_by = given (kind (j.verdict i).code) (j.exempt i) _ (j.granted i)
+  marked_by : Given (eqb (j.verdict i).code 4) (is_severe (j.verdict i).code) (j.exempt i) (free P j (j.grouping i) i) (j.named i) (mark_without_grants P j i) (mark P j i)
+  marked_by = given (kind (j.verdict i).code) (j.exempt i) _ (j.named i)
 
-  pub frees_none : (eqb (mark P j i) 3 ≡ eqb (mark_before P j i) 3) × (eqb (mark P j i) 4 ≡ eqb (mark_before P j i) 4)
+  pub frees_none : (eqb (mark P j i) 3 ≡ eqb (mark_without_grants P j i) 3) × (eqb (mark P j i) 4 ≡ eqb (mark_without_grants P j i) 4)
   frees_none = (marked_by.monthly, marked_by.automatic)
 
   -- mark 5 stands where a grant names a place that cost
-  pub mark_granted : eqb (mark P j i) 5 ≡ j.granted i && is_billed (mark_before P j i)
+  pub mark_granted : eqb (mark P j i) 5 ≡ j.named i && is_billed (mark_without_grants P j i)
   mark_granted = marked_by.granted
 
   pub mark-none : eqb (mark P j i) 0 ≡ not (is_violation (j.verdict i).code)
@@ -92,7 +92,7 @@ module _ (P : Rules) (j : Judged) (i : ℕ) where
         go false = refl
 
     -- it is billed where no grant names it and it is severe, or left with no waiver free
-    pub mark_bill : bit (eqb (j.grouping i) e && is_billed (mark P j i)) ≡ cond (j.granted i) 0 (bit (severe_in j e i) + (bit (left j e i) - bit (free P j e i)))
+    pub mark_bill : bit (eqb (j.grouping i) e && is_billed (mark P j i)) ≡ cond (j.named i) 0 (bit (severe_in j e i) + (bit (left j e i) - bit (free P j e i)))
     mark_bill = go (eqb (j.grouping i) e) refl
       where
         none : (n : Bool) → 0 ≡ cond n 0 (0 + (0 - bit (free P j e i)))
@@ -101,16 +101,16 @@ module _ (P : Rules) (j : Judged) (i : ℕ) where
 
         go : (g : Bool) → eqb (j.grouping i) e ≡ g
             → bit (g && is_billed (mark P j i))
-            ≡ cond (j.granted i) 0 (bit (g && is_severe (j.verdict i).code) + (bit (g && (eqb (j.verdict i).code 4 && not (j.exempt i))) - bit (free P j e i)))
+            ≡ cond (j.named i) 0 (bit (g && is_severe (j.verdict i).code) + (bit (g && (eqb (j.verdict i).code 4 && not (j.exempt i))) - bit (free P j e i)))
         go true q = rw (← eqb-true (j.grouping i) e q) marked_by.bill
-        go false q = none (j.granted i)
+        go false q = none (j.named i)
 
 -- two judgements that say the same of a place
 pub record Same (j k : Judged) (i : ℕ) : Type 0 where
   pub code : (j.verdict i).code ≡ (k.verdict i).code
   pub exempt : j.exempt i ≡ k.exempt i
   pub grouping : j.grouping i ≡ k.grouping i
-  pub granted : j.granted i ≡ k.granted i
+  pub named : j.named i ≡ k.named i
 
 module _ (j k : Judged) (n : ℕ) (h : (i : ℕ) → i < n → Same j k i) where
   pub left_same : (e i : ℕ) → i < n → left j e i ≡ left k e i
@@ -119,4 +119,4 @@ module _ (j k : Judged) (n : ℕ) (h : (i : ℕ) → i < n → Same j k i) where
   pub mark_same : (P : Rules) (i : ℕ) → i < n → mark P j i ≡ mark P k i
   mark_same P i l =
       let e : (e : ℕ) → count i (left j e) ≡ count i (left k e) = λ e. sum_same i _ _ (λ m q. ap bit (left_same e m (lt_trans q l))) in
-      rw (e (j.grouping i), (h i l).code, (h i l).exempt, (h i l).grouping, (h i l).granted)
+      rw (e (j.grouping i), (h i l).code, (h i l).exempt, (h i l).grouping, (h i l).named)

@@ -4,8 +4,8 @@
 use Rattle.std.specs.Prelude.{ℕ, ◌+◌, ◌*◌, ◌/◌, ◌%◌, ◌≤◌, ◌<◌, Bool, true, cond, ◌&&◌, ◌≡◌, ltb, eqb}
 use Rattle.rules.specs.Verdict.{version96, tier_factor, exceeds, verdict, is_violation, is_severe, is_refused, decided, refusal, days_verdict, number_of, panel_number}
 use Rattle.rules.specs.Month.{Terms, DailyTotals, exempt}
-use Rattle.rules.specs.Marks.{Judged, judged, violations, mark_before, mark, marked, billed, amount}
-use Rattle.rules.specs.Lighter.{Lighter, LighterMonth, NoSevereGranted}
+use Rattle.rules.specs.Marks.{Judged, judged, violations, mark_without_grants, mark, marked, billed, amount}
+use Rattle.rules.specs.Lighter.{Lighter, LighterMonth, NoSevereNamed}
 use Rattle.rules.specs.declared.Rules.{Rules}
 use Rattle.rules.specs.declared.Totals.{Totals}
 use Rattle.rules.specs.declared.Verdict.{Verdict}
@@ -27,10 +27,10 @@ pub record Laws (P : Rules) : Type 0 where
   -- it keeps an exemption
   pub lighter_exempt : (s : Terms) (c' c : DailyTotals) → LighterMonth s c' c → (g : ℕ) → g < s.groups → exempt P s c g ≡ true → exempt P s c' g ≡ true
   -- and so does not raise the amount, in any grouping; 2.6: where the grants are the same, and name no place that was severe
-  pub lighter_amount : (s : Terms) (c' c : DailyTotals) (granted : (i : ℕ) → Bool) → LighterMonth s c' c → NoSevereGranted (judged P s c granted) → (e : ℕ)
-      → amount P (judged P s c' granted) e ≤ amount P (judged P s c granted) e
+  pub lighter_amount : (s : Terms) (c' c : DailyTotals) (named : (i : ℕ) → Bool) → LighterMonth s c' c → NoSevereNamed (judged P s c named) → (e : ℕ)
+      → amount P (judged P s c' named) e ≤ amount P (judged P s c named) e
   -- 2.6: a grant frees no waiver: the same places have mark 3, and the same have mark 4, as without grants
-  pub frees_none : (j : Judged) (i : ℕ) → (eqb (mark P j i) 3 ≡ eqb (mark_before P j i) 3) × (eqb (mark P j i) 4 ≡ eqb (mark_before P j i) 4)
+  pub frees_none : (j : Judged) (i : ℕ) → (eqb (mark P j i) 3 ≡ eqb (mark_without_grants P j i) 3) × (eqb (mark P j i) 4 ≡ eqb (mark_without_grants P j i) 4)
   -- violations = monthly + automatic + granted + billed: the sum of all five marks
   pub adds_up : (j : Judged) (e : ℕ) → violations j e ≡ marked P j e 3 + marked P j e 4 + marked P j e 5 + billed P j e
   -- and the amount is that of the billed

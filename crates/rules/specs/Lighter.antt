@@ -18,5 +18,5 @@ pub record LighterMonth (s : Terms) (c' c : DailyTotals) : Type 0 where
   pub kept : (g day : ℕ) → g < s.groups → s.in_effect day ≡ true → 0 < (c g day).raw → 0 < (c' g day).raw
 
 -- 2.6: no grant names one of the firm's days that is severe
-abbrev pub NoSevereGranted : Judged → Type 0
-NoSevereGranted j = (i : ℕ) → i < places → j.granted i ≡ true → is_severe (j.verdict i).code ≡ false
+abbrev pub NoSevereNamed : Judged → Type 0
+NoSevereNamed j = (i : ℕ) → i < places → j.named i ≡ true → is_severe (j.verdict i).code ≡ false

@@ -33,18 +33,18 @@ six =
       verdict = λ i. record { code = cond (eqb i 0) 5 4; factor = 1 };
       exempt = λ i. ltb i 2;
       grouping = λ i. cond (ltb i 5) 1 2;
-      granted = no_grants;
+      named = no_grants;
     }
 
 pub six-marks : table 6 (mark version96 six) ≡ 1 ∷ 3 ∷ 4 ∷ 4 ∷ 2 ∷ 4 ∷ []
 unfolding joined sum choose
 six-marks = refl
 
--- 2.6: grants before the automatic waivers, or one that frees a waiver: every place but the fourth is granted. The severe one and the billed one have
+-- 2.6: grants before the automatic waivers, or one that frees a waiver: a grant names every place but the fourth. The severe one and the billed one have
 -- mark 5; those that were exempt or waived keep their marks, and the fourth has the second waiver as before
-abbrev granted : Judged
-granted = record six { granted = λ i. not (eqb i 3) }
+abbrev six_named : Judged
+six_named = record six { named = λ i. not (eqb i 3) }
 
-pub granted-marks : table 6 (mark version96 granted) ≡ 5 ∷ 3 ∷ 4 ∷ 4 ∷ 5 ∷ 4 ∷ []
+pub named-marks : table 6 (mark version96 six_named) ≡ 5 ∷ 3 ∷ 4 ∷ 4 ∷ 5 ∷ 4 ∷ []
 unfolding joined sum choose
-granted-marks = refl
+named-marks = refl

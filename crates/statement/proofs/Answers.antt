@@ -25,7 +25,7 @@ use Rattle.lookup.specs.InForce.{rules_of}
 use Rattle.lookup.specs.declared.Layout.{Layout}
 use Rattle.schedule.proofs.Good.{refused-good}
 use Rattle.month.specs.Month.{month_of, group_month, firm_totals, HeldMonth}
-use Rattle.grants.specs.Grants.{granted}
+use Rattle.grants.specs.Grants.{named}
 use Rattle.grants.specs.Month.{granted_month, granted_answer, GrantedIs}
 use Rattle.statement.specs.Layout.{line_size, both_totals}
 use Rattle.statement.specs.Statement.{statement_bytes, need, statement_answer, StatementIs}
@@ -60,9 +60,9 @@ module _ (S B C G out : List ℕ) where
       go (good l) q = under l (ltb (length out) (need (granted_month S B C G l))) refl (rw q at e)
 
 -- a month that holds the groups, verdicts and marks of a judged one
-module _ (S : List ℕ) (l : Layout) (c : DailyTotals) (granted : (i : ℕ) → Bool) (m : Month) (held : HeldMonth S l c granted m) where
+module _ (S : List ℕ) (l : Layout) (c : DailyTotals) (named : (i : ℕ) → Bool) (m : Month) (held : HeldMonth S l c named m) where
   abbrev j : Judged
-  j = month_of S l c granted
+  j = month_of S l c named
 
   held-mark : (i : ℕ) → i < places → held_mark m i ≡ mark (rules_of S) j i
   held-mark i h = rw held.marks (table_at (mark (rules_of S) j) places i 0 h)
@@ -91,8 +91,8 @@ module _ (S : List ℕ) (l : Layout) (c : DailyTotals) (granted : (i : ℕ) → 
 pub stated : (S B C G out : List ℕ) {m : Month} {a : Outcome ℕ} {out' : List ℕ} → GrantedIs S B C G (Ok m) → HeldIs S m out a out' → StatementIs S B C G out a out'
 stated S B C G out {m} told w =
     let e = sym told.answer in
-    let n = held_need_is S m.layout (firm_totals S B C m.layout) (granted S m.layout C G) m told.held in
-    let s = held_shown_is S m.layout (firm_totals S B C m.layout) (granted S m.layout C G) m told.held in
+    let n = held_need_is S m.layout (firm_totals S B C m.layout) (named S m.layout C G) m told.held in
+    let s = held_shown_is S m.layout (firm_totals S B C m.layout) (named S m.layout C G) m told.held in
     record { answer = rw e (rw (n, s) at w.answer); output = rw e (rw (n, s) at w.output) }
 
 -- a statement's answer

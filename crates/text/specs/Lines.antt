@@ -32,7 +32,7 @@ line_text (line.Heading month) = heading month
 line_text (line.Refused number) = refused_line number
 line_text (line.RefusedAt number offset) = refused_at number offset
 
--- the words of the marks: 1 severe, 2 billed, 3 monthly, 4 automatic; 2.6: 5 granted
+-- the words of the marks: 1 severe, 2 billed, 3 monthly, 4 automatic; 5, which 2.6 adds and no line of the program has, granted
 unfoldable pub mark_word : (mark : ℕ) → List ℕ
 mark_word mark =
     choose
