@@ -7,6 +7,7 @@ mod list;
 ghost use Rattle.std.specs.Prelude.{◌≡◌};
 ghost use Rattle.grants.specs.Month.{GrantedIs};
 
+pub use list::GRANT;
 use list::Grants;
 use lookup::Schedule;
 use month::{Month, firm_month};

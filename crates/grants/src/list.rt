@@ -14,7 +14,8 @@ use wire::{byte_at, bytes_at, tail, u16_at};
 
 const GRANT_KIND: u16 = 9;
 
-const GRANT: usize = 10;
+// The bytes of a grant.
+pub const GRANT: usize = 10;
 
 // So many bytes from a place on, or those that are there.
 #[tactic(auto, using(records::proofs::Parts::take_least))]
