@@ -44,7 +44,7 @@ module _ (S : List ℕ) (l : Layout) where
   abbrev pub grants_causes : (G : List ℕ) → List (Bool × ℕ)
   grants_causes G = joined (grants_in G) (λ k. grant_causes (grant_at G k))
 
-  -- 2.6: a grant names place i to the firm with the code C: it has that code, the day of the place, and the group that stands there
+  -- 2.6: a grant names place i of the firm with the code C: it has that code, the day of the place, and the group that stands there
   abbrev pub names : (C : List ℕ) → (i : ℕ) → (R : List ℕ) → Bool
   names C i R =
       all

@@ -12,7 +12,7 @@ use Rattle.grants.specs.declared.list.Grants.{Grants}
 abbrev pub causes_of : Grants → List (Bool × ℕ)
 causes_of g = grants_causes g.schedule.bytes.now g.schedule.layout g.bytes.now
 
--- the places that it names to a firm
+-- the places of a firm that it names
 abbrev pub named_by : Grants → (C : List ℕ) → (i : ℕ) → Bool
 named_by g C = named g.schedule.bytes.now g.schedule.layout C g.bytes.now
 

@@ -1,4 +1,4 @@
-// A firm's grants are given: a mark that costs becomes 5 where a grant names its place.
+// A firm's grants are counted: a mark that costs becomes 5 where a grant names its place.
 ghost use Rattle.std.specs.Prelude.{◌≡◌, ◌<◌, get_or};
 ghost use Rattle.rules.specs.Marks.{places, granted_mark};
 ghost use Rattle.grants.specs.Grants.{names};
@@ -24,7 +24,7 @@ impl Grants<'_> {
         }
     }
 
-    // Whether a grant names place i to the firm with a code.
+    // Whether a grant names place i of the firm with a code.
     #[tactic(auto, unfolding(wire::specs::Choose::all, wire::specs::Lists::joined))]
     fn names(&self, firm: &[u8], i: usize, grant: &[u8]) -> bool
         requires { i < places }
@@ -43,7 +43,7 @@ impl Grants<'_> {
         (0..self.count()).any(|k| self.names(firm, i, self.at(k)))
     }
 
-    // The mark of place i, of the marks without grants.
+    // The mark of place i with the grants, from the marks without.
     fn mark(&self, firm: &[u8], marks: &[u8; PLACES], i: usize) -> u8
         requires { i < places }
         ensures { result ≡ granted_mark (named_by self.now firm.now i) (get_or marks.now i 0) }
@@ -56,7 +56,7 @@ impl Grants<'_> {
         }
     }
 
-    // The marks with the firm's grants, of those without.
+    // The marks with the firm's grants, from those without.
     pub(crate) fn give(&self, firm: &[u8], marks: &[u8; PLACES]) -> [u8; PLACES]
         ensures { result ≡ with_grants (named_by self.now firm.now) marks.now }
     {

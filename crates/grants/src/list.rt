@@ -93,7 +93,7 @@ impl<'a> Grants<'a> {
         Ok(())
     }
 
-    // The causes 34 and 35, grant by grant.
+    // The first cause, 34 or 35, grant by grant.
     pub(crate) fn check(&self) -> Result<(), Cause>
         ensures { cause_number result ≡ choose (causes_of self.now) 0 }
     {

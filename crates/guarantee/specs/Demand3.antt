@@ -152,7 +152,7 @@ pub record SameBytes (S C : List ℕ) (p q : Run S C) : Type 0 where
   pub second : answer_of S C q ≡ good written
   pub bytes : take written (output_of S C p) ≡ take written (output_of S C q)
 
--- without grants it is the claim as it stood before 2.6
+-- the claim without grants: nothing is asked of them, and no statement is refused
 pub record WithoutGrants (S C : List ℕ) : Type 0 where
   -- every mark is that without grants, and none is 5
   pub marks : (p : Run S C) → p.grants ≡ [] → (i : ℕ) → mark (rules_of S) (month S C p) i ≡ mark_without_grants (rules_of S) (month S C p) i

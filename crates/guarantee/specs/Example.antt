@@ -159,7 +159,7 @@ amended = reported ++ correction 69 83 3 1 122000 143000 20000 ∷ []
 abbrev severe_first : List (List ℕ)
 severe_first = ninth 69 83 1 ∷ fifth 69 83 2 10000 ∷ fifth 69 83 3 10000 ∷ []
 
--- with one message of the first less in its score, it is ordinary (60,001, 60,000, 1,000: the eighth marked day)
+-- with one modification of the first day as a new order, it scores one less and is ordinary (60,001, 60,000, 1,000: the eighth marked day)
 abbrev milder_first : List (List ℕ)
 milder_first = orders 69 83 1 1 60000 0 1000 ∷ fifth 69 83 2 10000 ∷ fifth 69 83 3 10000 ∷ []
 

@@ -1,4 +1,4 @@
--- Lighter traffic: fewer messages, more lots; and grants that name no severe place (the premises of demand 3).
+-- Lighter traffic: fewer messages, more lots; and grants that name no severe place: premises of demand 3.
 -- Assumes nothing.
 use Rattle.std.specs.Prelude.{ℕ, ◌≤◌, ◌<◌, true, false, ◌≡◌}
 use Rattle.rules.specs.Verdict.{is_severe}
