@@ -1,10 +1,9 @@
 -- What a month with grants comes to: 1 to 8, 21 or 22 refuses it, or 34 or 35 the first grant that has one, or it is the firm's month. Its grants change
 -- the marks alone.
 use Prim.Native.Nat.{ℕ}
-use mathlib.Core.Bool.{Bool, true, false, cond, not}
+use mathlib.Core.Bool.{Bool, true, false, not}
 use mathlib.Core.List.{List, [], ◌∷◌}
 use mathlib.Core.Path.{◌≡◌, refl, sym, ap, ◌∙◌}
-use lib.Dec.{eqb}
 use lib.ListN.{length, get_or}
 use borrow.Author.Tests.{ne_eqb}
 use Rattle.std.specs.Prelude.{Ok}
@@ -14,10 +13,10 @@ use Rattle.wire.proofs.Lists.{joined_same, table_at}
 use Rattle.wire.proofs.Tables.{kept}
 use Rattle.rules.specs.Month.{DailyTotals}
 use Rattle.rules.specs.Marks.{places, no_grants, granted_mark, mark}
-use Rattle.refusals.specs.Outcome.{Outcome, refused, good, follow}
+use Rattle.refusals.specs.Outcome.{refused, good}
 use Rattle.lookup.specs.InForce.{rules_of}
 use Rattle.lookup.specs.declared.Layout.{Layout}
-use Rattle.schedule.proofs.Good.{refused-good}
+use Rattle.schedule.proofs.Good.{asked-good}
 use Rattle.book.specs.Book.{check_book}
 use Rattle.month.specs.Month.{month_of, firm_totals, month_answer, HeldMonth, MonthIs}
 use Rattle.month.specs.declared.Month.{Month}
@@ -69,16 +68,7 @@ module _ (S B C G : List ℕ) where
   -- a month that is not refused is that of a schedule and a book that were checked
   pub granted-book : {l : Layout} → granted_answer S B C G ≡ good l → check_book S (length B) ≡ good l
   unfolding granted_answer
-  granted-book {l} = go (month_answer S B C) refl
-    where
-      by : (k : Layout) (b : Bool) (n : ℕ) → cond b (good k) (refused n 0) ≡ good l → good k ≡ good l
-      by k true n e = e
-      by k false n e = absurd (refused-good e)
-
-      go : (x : Outcome Layout) → month_answer S B C ≡ x
-          → follow x (λ k. cond (eqb (choose (grants_causes S k G) 0) 0) (good k) (refused (choose (grants_causes S k G) 0) 0)) ≡ good l → check_book S (length B) ≡ good l
-      go (refused n o) q e = absurd (refused-good e)
-      go (good k) q e = judged-book S B C (q ∙ by k (eqb (choose (grants_causes S k G) 0) 0) (choose (grants_causes S k G) 0) e)
+  granted-book e = judged-book S B C (asked-good (λ l. grants_causes S l G) (month_answer S B C) e)
 
 -- the marks with the grants, of a month that is held without
 given_marks : (S : List ℕ) (l : Layout) (c : DailyTotals) (named : (i : ℕ) → Bool) (m : Month) → HeldMonth S l c no_grants m

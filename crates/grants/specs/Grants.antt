@@ -1,7 +1,7 @@
 -- The grants of a statement: how a schedule takes them, and the places that they name (document 02, 2.6). S is the schedule, l what it holds, G the lent
 -- list, R one grant, C a firm's code. A grant's firm, day and group stand where an activity record has them (activity/specs/Activity.antt).
 -- Assumes nothing.
-use Rattle.std.specs.Prelude.{ℕ, ◌+◌, ◌*◌, ◌/◌, Bool, not, List, [], ◌∷◌, eqb, length, take, drop}
+use Rattle.std.specs.Prelude.{ℕ, ◌+◌, ◌-◌, ◌*◌, ◌/◌, Bool, not, ◌&&◌, List, [], ◌∷◌, eqb, length, take, drop}
 use Rattle.std.specs.Str.{bytes_eq}
 use Rattle.wire.specs.Choose.{all, some}
 use Rattle.wire.specs.Lists.{joined}
@@ -21,7 +21,7 @@ grant_size = 10
 
 -- how many grants a list has, one after the other; bytes that are left count as one more, which is cut
 abbrev pub grants_in : (G : List ℕ) → ℕ
-grants_in G = (length G + 9) / grant_size
+grants_in G = (length G + (grant_size - 1)) / grant_size
 
 -- grant k, from 0; of a cut one what is there
 abbrev pub grant_at : (G : List ℕ) → (k : ℕ) → List ℕ
@@ -44,15 +44,13 @@ module _ (S : List ℕ) (l : Layout) where
   abbrev pub grants_causes : (G : List ℕ) → List (Bool × ℕ)
   grants_causes G = joined (grants_in G) (λ k. grant_causes (grant_at G k))
 
+  -- the group with a code is listed, and stands at place g among the groups
+  abbrev pub stands_at : (code : List ℕ) → (g : ℕ) → Bool
+  stands_at code g = group_listed S l code && eqb (group_place S l code) g
+
   -- 2.6: a grant names place i of the firm with the code C: it has that code, the day of the place, and the group that stands there
   abbrev pub names : (C : List ℕ) → (i : ℕ) → (R : List ℕ) → Bool
-  names C i R =
-      all
-      (bytes_eq (firm_code R) C
-      ∷ eqb (day R) (day_of i)
-      ∷ group_listed S l (group_code R)
-      ∷ eqb (group_place S l (group_code R)) (group_of i)
-      ∷ [])
+  names C i R = all (bytes_eq (firm_code R) C ∷ eqb (day R) (day_of i) ∷ stands_at (group_code R) (group_of i) ∷ [])
 
   -- 2.6: a grant of the list names place i; a grant named twice works once
   abbrev pub named : (C G : List ℕ) → (i : ℕ) → Bool

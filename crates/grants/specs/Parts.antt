@@ -1,10 +1,8 @@
 -- What the parts of a month with grants promise to each other. The public contract does not cite these.
 -- Assumes nothing.
-use Rattle.std.specs.Prelude.{ℕ, Bool, ◌&&◌, List, eqb, get_or}
+use Rattle.std.specs.Prelude.{ℕ, Bool, List, get_or}
 use Rattle.wire.specs.Lists.{table}
 use Rattle.rules.specs.Marks.{places, granted_mark}
-use Rattle.lookup.specs.Lookup.{group_listed, group_place}
-use Rattle.lookup.specs.declared.Layout.{Layout}
 use Rattle.grants.specs.Grants.{grants_causes, named}
 use Rattle.grants.specs.declared.list.Grants.{Grants}
 
@@ -15,10 +13,6 @@ causes_of g = grants_causes g.schedule.bytes.now g.schedule.layout g.bytes.now
 -- the places of a firm that it names
 abbrev pub named_by : Grants → (C : List ℕ) → (i : ℕ) → Bool
 named_by g C = named g.schedule.bytes.now g.schedule.layout C g.bytes.now
-
--- a group code's group stands at place g among the groups
-abbrev pub stands_at : (S : List ℕ) → Layout → (C : List ℕ) → (g : ℕ) → Bool
-stands_at S l C g = group_listed S l C && eqb (group_place S l C) g
 
 -- an array of marks, with the grants of a firm given
 abbrev pub with_grants : (named : (i : ℕ) → Bool) → (marks : List ℕ) → List ℕ

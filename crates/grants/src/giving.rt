@@ -1,8 +1,8 @@
 // A firm's grants are counted: a mark that costs becomes 5 where a grant names its place.
 ghost use Rattle.std.specs.Prelude.{◌≡◌, ◌<◌, get_or};
 ghost use Rattle.rules.specs.Marks.{places, granted_mark};
-ghost use Rattle.grants.specs.Grants.{names};
-ghost use Rattle.grants.specs.Parts.{stands_at, named_by, with_grants};
+ghost use Rattle.grants.specs.Grants.{stands_at, names};
+ghost use Rattle.grants.specs.Parts.{named_by, with_grants};
 
 use crate::list::{Grants, firm_code};
 use activity::{DAY, GROUP_CODE};

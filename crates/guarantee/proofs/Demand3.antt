@@ -227,6 +227,10 @@ module _ (S C : List ℕ) (listed : is_listed S C ≡ true) where
   abbrev cause_of : Run S C → ℕ
   cause_of p = choose (grants_causes S (layout S) p.grants) 0
 
+  -- the same grants come to the same
+  cause_same : (p q : Run S C) → p.grants ≡ q.grants → cause_of q ≡ cause_of p
+  cause_same p q g = ap (λ (G : List ℕ). choose (grants_causes S (layout S) G) 0) (sym g)
+
   -- grants with a cause refuse its statement
   refused_by : (p : Run S C) {n : ℕ} → cause_of p ≡ n → (n ≡ 0 → ⊥) → answer_of S C p ≡ refused n 0
   refused_by p c z =
@@ -280,16 +284,13 @@ module _ (S C : List ℕ) (listed : is_listed S C ≡ true) where
         ap cell_totals (laws.own_only C _ p.posts q.posts (place_found S C (layout S) listed) h) in
         ap₂ (λ (c : DailyTotals) (G : List ℕ). statement_bytes S (layout S) (month_of S (layout S) c (named S (layout S) C G))) alike g
 
-    cause_same : cause_of q ≡ cause_of p
-    cause_same = ap (λ (G : List ℕ). choose (grants_causes S (layout S) G) 0) (sym g)
-
     same_bytes : cause_of p ≡ 0 → SameBytes S C p q
     same_bytes c =
         record {
           written = length (bytes_after S C p.posts p.grants);
           first = (run p c).answer;
-          second = (run q (cause_same ∙ c)).answer ∙ ap (λ (bs : List ℕ). good (length bs)) (sym bytes_same);
-          bytes = bytes_first p _ c refl ∙ bytes_same ∙ sym (bytes_first q _ (cause_same ∙ c) (ap length (sym bytes_same)));
+          second = (run q (cause_same p q g ∙ c)).answer ∙ ap (λ (bs : List ℕ). good (length bs)) (sym bytes_same);
+          bytes = bytes_first p _ c refl ∙ bytes_same ∙ sym (bytes_first q _ (cause_same p q g ∙ c) (ap length (sym bytes_same)));
         }
 
     same_statement : SameStatement S C p q
@@ -305,7 +306,7 @@ module _ (S C : List ℕ) (listed : is_listed S C ≡ true) where
         refused_both : (n : ℕ) → cause_of p ≡ n → (n ≡ 0 → ⊥) → SameStatement S C p q
         refused_both n e z =
             let r = refused_by p e z in
-            record { answer = r ∙ sym (refused_by q (cause_same ∙ e) z); bytes = λ w a. absurd (refused-good (sym r ∙ a)) }
+            record { answer = r ∙ sym (refused_by q (cause_same p q g ∙ e) z); bytes = λ w a. absurd (refused-good (sym r ∙ a)) }
 
         go : (n : ℕ) → cause_of p ≡ n → SameStatement S C p q
         go zero e = taken_both (same_bytes e)
@@ -320,7 +321,7 @@ module _ (S C : List ℕ) (listed : is_listed S C ≡ true) where
     lighter_dollars : DollarsFall S C p q
     lighter_dollars =
         let c = no_cause p g.taken in
-        let d : cause_of q ≡ 0 = ap (λ (G : List ℕ). choose (grants_causes S (layout S) G) 0) (sym g.same) ∙ c in
+        let d = cause_same p q g.same ∙ c in
         record {
           first = rw ((added q d).first.dollars_are, (added p c).first.dollars_are) (lighter 1);
           second = rw ((added q d).second.dollars_are, (added p c).second.dollars_are) (lighter 2);

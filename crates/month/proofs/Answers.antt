@@ -1,7 +1,6 @@
 -- What a month's call comes to: the first of 1 to 8, 21 and 22, or what the schedule holds.
 use Prim.Native.Nat.{ℕ}
-use mathlib.Core.Bool.{Bool, true, false, cond, not}
-use lib.Dec.{eqb}
+use mathlib.Core.Bool.{true, false, not}
 use mathlib.Core.List.{List}
 use mathlib.Core.Path.{◌≡◌, sym, ap, subst, ◌∙◌}
 use lib.ListN.{length}
@@ -10,10 +9,10 @@ use Rattle.std.proofs.lemmas.Result.{err_from_is_err_and}
 use Rattle.wire.specs.Choose.{choose}
 use Rattle.wire.proofs.Choose.{here, next, done, chosen}
 use Rattle.rules.specs.Marks.{no_grants}
-use Rattle.refusals.specs.Outcome.{Outcome, refused, good, follow}
+use Rattle.refusals.specs.Outcome.{refused, good}
 use Rattle.lookup.specs.Lookup.{firm_listed}
 use Rattle.lookup.specs.declared.Layout.{Layout}
-use Rattle.schedule.proofs.Good.{refused-good}
+use Rattle.schedule.proofs.Good.{asked-good}
 use Rattle.book.specs.Book.{cells, totals_in, check_book}
 use Rattle.month.specs.Month.{any_excess, firm_totals, month_causes, month_answer, HeldMonth, MonthIs}
 use Rattle.month.specs.declared.Month.{Month}
@@ -59,15 +58,7 @@ held-month {S} {B} {C} {l} {f} {m} at within h =
 -- a month that is not refused is that of a schedule and a book that were checked
 pub judged-book : (S B C : List ℕ) {l : Layout} → month_answer S B C ≡ good l → check_book S (length B) ≡ good l
 unfolding month_answer
-judged-book S B C {l} = go (check_book S (length B))
-  where
-    by : (k : Layout) (b : Bool) (n : ℕ) → cond b (good k) (refused n 0) ≡ good l → good k ≡ good l
-    by k true n e = e
-    by k false n e = absurd (refused-good e)
-
-    go : (x : Outcome Layout) → follow x (λ k. cond (eqb (choose (month_causes S B C k) 0) 0) (good k) (refused (choose (month_causes S B C k) 0) 0)) ≡ good l → x ≡ good l
-    go (refused n o) e = absurd (refused-good e)
-    go (good k) e = by k (eqb (choose (month_causes S B C k) 0) 0) (choose (month_causes S B C k) 0) e
+judged-book S B C = asked-good (month_causes S B C) (check_book S (length B))
 
 -- a call that 1 to 8 refuse
 pub ruleset refusing = (err_from_is_err_and, is-refused)

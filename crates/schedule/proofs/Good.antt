@@ -10,7 +10,7 @@ use lib.Seq.{get_or-take}
 use borrow.Author.Count.{below_more}
 use borrow.Author.Tests.{leb-false, leb-true, eqb-true, eqb-false, eq-eqb, not-true}
 use Rattle.std.proofs.lemmas.Slice.Eq.{bytes_eq-Decides}
-use Rattle.wire.specs.Choose.{within}
+use Rattle.wire.specs.Choose.{choose, within}
 use Rattle.std.specs.Cmp.{first_so, second_so}
 use Rattle.wire.proofs.Bools.{range, in_range}
 use Rattle.wire.proofs.Choose.{here, next, done, chosen, none_at, choose_most, every}
@@ -19,7 +19,7 @@ use Rattle.records.specs.Fields.{head_fields, head_ok, group_fields, group_in_ra
 use Rattle.records.proofs.Parts.{code-letters}
 use Rattle.contracts.specs.Listing.{contracts_ok, listed}
 use Rattle.records.specs.declared.fields.Firm.{Firm}
-use Rattle.refusals.specs.Outcome.{refused, good}
+use Rattle.refusals.specs.Outcome.{Outcome, refused, good, follow, asked}
 use Rattle.lookup.specs.Lookup.{group_start, firm_start, group_is, firm_is, group_listed, firm_listed}
 use Rattle.schedule.specs.Check.{kind_here, is_due, length_ok, fields_ok, is_repeated, header_causes, body_causes, cause, with_record, after, ending, Fine, scan, begin, check_of}
 use Rattle.schedule.specs.Good.{Once, GroupStands, FirmStands, GoodSchedule, Numbered}
@@ -33,6 +33,15 @@ use Rattle.schedule.proofs.Turns.{taken, accepted, scan_end, scan_refused, scan_
 
 pub refused-good : {A : Type 0} {n o : ℕ} {a : A} → refused n o ≡ good a → ⊥
 refused-good e = let z : ◌≡◌ {A = ℕ} 0 1 = cc in omega arith
+
+-- what is good after causes were asked of it was good before
+pub asked-good : {A : Type 0} (causes : A → List (Bool × ℕ)) (x : Outcome A) {a : A} → follow x (λ k. asked (causes k) (good k)) ≡ good a → x ≡ good a
+asked-good causes (refused n o) e = absurd (refused-good e)
+asked-good causes (good k) {a} e = by (eqb (choose (causes k) 0) 0) (choose (causes k) 0) e
+  where
+    by : (b : Bool) (n : ℕ) → cond b (good k) (refused n 0) ≡ good a → good k ≡ good a
+    by true n e = e
+    by false n e = absurd (refused-good e)
 
 -- where a good schedule ends: P holds there, no bytes are left, and the layout is that of the place
 record Ended (S : List ℕ) (P : Cursor → Type 0) (l : Layout) : Type 0 where
