@@ -9,18 +9,19 @@ use borrow.Author.Tests.{ne_eqb}
 use Rattle.std.specs.Prelude.{Ok}
 use Rattle.wire.specs.Choose.{choose}
 use Rattle.wire.specs.Lists.{joined, table}
-use Rattle.wire.proofs.Lists.{joined_same, table_at}
+use Rattle.wire.proofs.Lists.{joined_same}
 use Rattle.wire.proofs.Tables.{kept}
-use Rattle.rules.specs.Month.{DailyTotals}
 use Rattle.rules.specs.Marks.{places, no_grants, granted_mark, mark}
 use Rattle.refusals.specs.Outcome.{refused, good}
 use Rattle.lookup.specs.InForce.{rules_of}
+use Rattle.lookup.specs.Lookup.{firm_place}
 use Rattle.lookup.specs.declared.Layout.{Layout}
 use Rattle.schedule.proofs.Good.{asked-good}
 use Rattle.book.specs.Book.{check_book}
-use Rattle.month.specs.Month.{month_of, firm_totals, month_answer, HeldMonth, MonthIs}
+use Rattle.month.specs.Month.{month_of_firm, month_answer, HeldMonth, MonthIs}
 use Rattle.month.specs.declared.Month.{Month}
 use Rattle.month.proofs.Answers.{judged-book}
+use Rattle.month.proofs.Held.{held-mark}
 use Rattle.grants.specs.Grants.{grants_in, grant_at, is_whole, has_cell, grant_causes, grants_causes, named}
 use Rattle.grants.specs.Month.{granted_answer, GrantedIs}
 use Rattle.grants.specs.Parts.{with_grants}
@@ -65,17 +66,21 @@ module _ (S B C G : List ℕ) where
     unfolding granted_answer
     is_taken c = rw (e, c)
 
-  -- a month that is not refused is that of a schedule and a book that were checked
-  pub granted-book : {l : Layout} → granted_answer S B C G ≡ good l → check_book S (length B) ≡ good l
+  -- a month that is not refused is not refused without grants
+  pub granted-judged : {l : Layout} → granted_answer S B C G ≡ good l → month_answer S B C ≡ good l
   unfolding granted_answer
-  granted-book e = judged-book S B C (asked-good (λ l. grants_causes S l G) (month_answer S B C) e)
+  granted-judged e = asked-good (λ l. grants_causes S l G) (month_answer S B C) e
+
+  -- and is that of a schedule and a book that were checked
+  pub granted-book : {l : Layout} → granted_answer S B C G ≡ good l → check_book S (length B) ≡ good l
+  granted-book e = judged-book S B C (granted-judged e)
 
 -- the marks with the grants, of a month that is held without
-given_marks : (S : List ℕ) (l : Layout) (c : DailyTotals) (named : (i : ℕ) → Bool) (m : Month) → HeldMonth S l c no_grants m
-    → with_grants named m.marks ≡ table places (mark (rules_of S) (month_of S l c named))
-given_marks S l c named m h =
+given_marks : (S : List ℕ) (l : Layout) (B : List ℕ) (f : ℕ) (named : (i : ℕ) → Bool) (m : Month) → HeldMonth S l B f no_grants m
+    → with_grants named m.marks ≡ table places (mark (rules_of S) (month_of_firm S l B f named))
+given_marks S l B f named m h =
     joined_same places _ _ (λ i k.
-    let one : get_or m.marks i 0 ≡ mark (rules_of S) (month_of S l c no_grants) i = rw h.marks (table_at (mark (rules_of S) (month_of S l c no_grants)) places i 0 k) in
+    let one : get_or m.marks i 0 ≡ mark (rules_of S) (month_of_firm S l B f no_grants) i = held-mark S l B f no_grants m h i k in
     ap (λ (n : ℕ). granted_mark (named i) n ∷ []) one)
 
 -- so a month whose grants are taken, with these marks, is the firm's with its grants
@@ -87,8 +92,9 @@ held-granted {S} {B} {C} {G} {m} told c marks e =
       answer = sym (is_taken S B C G (sym told.answer) c);
       held = record {
         layout = h.layout;
+        firm = h.firm;
         groups = h.groups;
         verdicts = h.verdicts;
-        marks = e ∙ given_marks S m.layout (firm_totals S B C m.layout) (named S m.layout C G) m h;
+        marks = e ∙ given_marks S m.layout B (firm_place S m.layout C) (named S m.layout C G) m h;
       };
     }

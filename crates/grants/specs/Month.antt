@@ -4,6 +4,7 @@ use Rattle.std.specs.Prelude.{ℕ, List, Result, IfOk, ◌≡◌}
 use Rattle.rules.specs.Marks.{Judged}
 use Rattle.refusals.specs.Outcome.{Outcome, good, follow, asked}
 use Rattle.refusals.specs.declared.Refusal.{Refusal}
+use Rattle.lookup.specs.Lookup.{firm_place}
 use Rattle.lookup.specs.declared.Layout.{Layout}
 use Rattle.month.specs.Month.{month_of, firm_totals, month_answer, HeldMonth, month_meaning}
 use Rattle.month.specs.declared.Month.{Month}
@@ -21,4 +22,4 @@ module _ (S B C G : List ℕ) where
   -- what the call promises: a refusal, or the firm's month with its grants
   pub record GrantedIs (r : Result Month Refusal) : Type 0 where
     pub answer : month_meaning r ≡ granted_answer
-    pub held : IfOk r (λ m. HeldMonth S m.layout (firm_totals S B C m.layout) (named S m.layout C G) m)
+    pub held : IfOk r (λ m. HeldMonth S m.layout B (firm_place S m.layout C) (named S m.layout C G) m)

@@ -2,21 +2,22 @@
 use Prim.Native.Nat.{ℕ}
 use mathlib.Core.Bool.{true, false, not}
 use mathlib.Core.List.{List}
-use mathlib.Core.Path.{◌≡◌, sym, ap, subst, ◌∙◌}
+use mathlib.Core.Path.{◌≡◌, refl, sym, ap, subst, ◌∙◌}
 use lib.ListN.{length}
 use Rattle.std.specs.Prelude.{Ok}
 use Rattle.std.proofs.lemmas.Result.{err_from_is_err_and}
 use Rattle.wire.specs.Choose.{choose}
-use Rattle.wire.proofs.Choose.{here, next, done, chosen}
+use Rattle.wire.proofs.Choose.{here, next, done, chosen, passed}
 use Rattle.rules.specs.Marks.{no_grants}
 use Rattle.refusals.specs.Outcome.{refused, good}
-use Rattle.lookup.specs.Lookup.{firm_listed}
+use Rattle.lookup.specs.Lookup.{firm_listed, firm_place}
 use Rattle.lookup.specs.declared.Layout.{Layout}
-use Rattle.schedule.proofs.Good.{asked-good}
-use Rattle.book.specs.Book.{cells, totals_in, check_book}
-use Rattle.month.specs.Month.{any_excess, firm_totals, month_causes, month_answer, HeldMonth, MonthIs}
+use Rattle.schedule.proofs.Good.{asked-good, asked-passed}
+use Rattle.book.specs.Book.{cells, check_book}
+use Rattle.book.proofs.Checked.{sized}
+use Rattle.month.specs.Month.{any_excess, firm_cells, month_causes, month_answer, HeldMonth, MonthIs}
 use Rattle.month.specs.declared.Month.{Month}
-use Rattle.month.specs.Parts.{ListedAt}
+use Rattle.month.specs.Parts.{ListedAt, Sound}
 
 module _ (S B C : List ℕ) where
   -- 1 to 8
@@ -47,18 +48,25 @@ module _ (S B C : List ℕ) where
 
 -- the month of a listed firm that 22 does not refuse is what the call promises
 pub held-month : {S B C : List ℕ} {l : Layout} {f : ℕ} {m : Month} → ListedAt S l B C f → any_excess l (cells l.groups B f) ≡ false
-    → HeldMonth S l (totals_in l.groups B f) no_grants m → MonthIs S B C (Ok m)
+    → HeldMonth S l B f no_grants m → MonthIs S B C (Ok m)
 held-month {S} {B} {C} {l} {f} {m} at within h =
-    let here : HeldMonth S l (firm_totals S B C l) no_grants m = subst (λ (g : ℕ). HeldMonth S l (totals_in l.groups B g) no_grants m) at.place h in
+    let here : HeldMonth S l B (firm_place S l C) no_grants m = subst (λ (g : ℕ). HeldMonth S l B g no_grants m) at.place h in
     record {
       answer = ap good h.layout ∙ sym (is_judged S B C l f at within);
-      held = subst (λ (k : Layout). HeldMonth S k (firm_totals S B C k) no_grants m) (sym h.layout) here;
+      held = subst (λ (k : Layout). HeldMonth S k B (firm_place S k C) no_grants m) (sym h.layout) here;
     }
 
 -- a month that is not refused is that of a schedule and a book that were checked
 pub judged-book : (S B C : List ℕ) {l : Layout} → month_answer S B C ≡ good l → check_book S (length B) ≡ good l
 unfolding month_answer
 judged-book S B C = asked-good (month_causes S B C) (check_book S (length B))
+
+-- and of a firm whose numbers are within the limit
+pub judged-sound : (S B C : List ℕ) {l : Layout} → month_answer S B C ≡ good l → Sound S l (firm_cells S B C l)
+unfolding month_answer
+judged-sound S B C {l} e =
+    let p = passed (month_causes S B C l) refl (asked-passed (month_causes S B C) (check_book S (length B)) e) in
+    record { checked = (sized S (length B) (judged-book S B C e)).schedule; within = p.1.0 }
 
 -- a call that 1 to 8 refuse
 pub ruleset refusing = (err_from_is_err_and, is-refused)

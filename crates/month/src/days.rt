@@ -35,11 +35,11 @@ pub(crate) fn has_excess(l: Layout, book: &[u64], firm: u8) -> bool
 
 // The sums of raw, score and lots over the counted days, and how many these are.
 #[derive(Clone, Copy, Debug, PartialEq, Eq, Default)]
-struct MonthSums {
-    raw: u64,
-    score: u64,
-    lots: u64,
-    days: u64,
+pub struct MonthSums {
+    pub raw: u64,
+    pub score: u64,
+    pub lots: u64,
+    pub days: u64,
 }
 
 impl From<MonthSums> for Totals {
@@ -82,7 +82,7 @@ impl MonthSums {
 impl FirmBook<'_> {
     // The sums of a group of the firm over the month.
     #[tactic(auto, using(crate::proofs::Exempt::sums_next))]
-    fn month_sums(&self, group: u8) -> MonthSums
+    pub(crate) fn month_sums(&self, group: u8) -> MonthSums
         requires { group < most_groups }
         ensures { result ≡ sums_to (terms_of self.now) (totals_of self.now) group 31 }
     {
@@ -96,16 +96,16 @@ impl FirmBook<'_> {
         sums
     }
 
-    // Whether a group of the firm is exempt this month.
-    pub(crate) fn is_exempt(&self, g: usize) -> bool
-        requires { g < most_groups }
+    // Whether a group of the firm, with these sums, is exempt this month.
+    pub(crate) fn is_exempt(&self, g: usize, sums: MonthSums) -> bool
+        requires g_lt_most_groups { g < most_groups }
+        requires sums_value { sums ≡ sums_to (terms_of self.now) (totals_of self.now) g 31 }
         ensures { result ≡ exempt (rules_of (bytes_of self.now)) (terms_of self.now) (totals_of self.now) g }
     {
         if usize::from(self.schedule.layout.groups) <= g {
             return true;
         }
         let benchmark = u64::from(self.group(g).benchmark);
-        let sums = self.month_sums(g as u8);
         let verdict = days_verdict(sums.days, Totals::from(sums), benchmark).unwrap_or(NOT_JUDGED);
         !is_violation(verdict.code)
     }

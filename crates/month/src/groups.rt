@@ -38,15 +38,17 @@ impl FirmBook<'_> {
     }
 
     // Group g in the firm's month.
-    #[tactic(auto, using(wire::proofs::Lists::table_at))]
+    #[tactic(auto, using(wire::proofs::Lists::table_at), unfolding(crate::specs::Parts::sums_to))]
     fn group_month(&self, g: usize) -> GroupMonth
         requires { g < most_groups }
         ensures { result ≡ group_month (bytes_of self.now) (layout_of self.now) (totals_of self.now) g }
     {
+        let sums = self.month_sums(g as u8);
         GroupMonth {
             start: self.starts[g],
             grouping: self.group(g).grouping,
-            exempt: self.is_exempt(g),
+            sums,
+            exempt: self.is_exempt(g, sums),
         }
     }
 

@@ -7,9 +7,11 @@ mod groups;
 mod marks;
 
 ghost use Rattle.std.specs.Prelude.{◌≡◌};
-ghost use Rattle.month.specs.Firm.{bytes_of, layout_of, totals_of};
+ghost use Rattle.month.specs.Firm.{bytes_of, layout_of};
 ghost use Rattle.rules.specs.Marks.{no_grants};
 ghost use Rattle.month.specs.Month.{MonthIs, HeldMonth};
+
+pub use days::MonthSums;
 
 use book::check_book;
 use days::has_excess;
@@ -20,18 +22,20 @@ use marks::{codes_of, give_marks};
 use refusals::{Cause, Refusal};
 use rules::{GROUPS, PLACES, Verdict};
 
-// A group in a firm's month: where it stands in the schedule, its exchange grouping, and whether it is exempt.
+// A group in a firm's month: where it stands in the schedule, its exchange grouping, the sums over its counted days, and whether it is exempt.
 #[derive(Clone, Copy, Debug, PartialEq, Eq)]
 pub struct GroupMonth {
     pub start: usize,
     pub grouping: u8,
+    pub sums: MonthSums,
     pub exempt: bool,
 }
 
-// What the schedule holds; its groups; of each place (day by day, in each day group by group) the verdict and the mark.
+// What the schedule holds; the firm's place among its firms; its groups; of each place (day by day, in each day group by group) the verdict and the mark.
 #[derive(Clone, Copy, Debug, PartialEq, Eq)]
 pub struct Month {
     pub layout: Layout,
+    pub firm: u8,
     pub groups: [GroupMonth; GROUPS],
     pub verdicts: [Verdict; PLACES],
     pub marks: [u8; PLACES],
@@ -39,13 +43,14 @@ pub struct Month {
 
 // The month of a firm.
 fn judged_month(firm: &FirmBook) -> Month
-    ensures { HeldMonth (bytes_of firm.now) (layout_of firm.now) (totals_of firm.now) no_grants result }
+    ensures { HeldMonth (bytes_of firm.now) (layout_of firm.now) firm.now.book.now firm.now.firm no_grants result }
 {
     let groups = firm.groups();
     let verdicts = firm.verdicts();
     let marks = give_marks(rules_of(firm.schedule.bytes), codes_of(&verdicts), &groups);
     Month {
         layout: firm.schedule.layout,
+        firm: firm.firm,
         groups,
         verdicts,
         marks,

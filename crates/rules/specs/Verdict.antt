@@ -1,11 +1,12 @@
--- The Program's constants, and the verdict on totals (document 01, "The day's verdict", and document 02, 2.1; the Program, sections 2 to 5 and 8).
--- `Rules`, `Totals` and `Verdict` are the structs of src/lib.rt. Totals are those of d days: a day's own for d = 1, a month's sums for its d counted
+-- The Program's constants, and the verdict on totals (document 01, "The day's verdict", and document 02, 2.1 and 2.7; the Program, sections 2 to 5
+-- and 8). `Rules`, `Totals`, `Sides` and `Verdict` are the structs of src/lib.rt. Totals are those of d days: a day's own for d = 1, a month's sums for its d counted
 -- days (document 01, "The month").
 -- Assumes nothing.
-use Rattle.std.specs.Prelude.{ℕ, ◌+◌, ◌*◌, ◌≤◌, Bool, cond, not, ◌&&◌, ◌||◌, [], ◌∷◌, Result, Ok, Err, leb, ltb, eqb}
+use Rattle.std.specs.Prelude.{ℕ, ◌+◌, ◌*◌, ◌≤◌, Bool, cond, not, ◌&&◌, ◌||◌, [], ◌∷◌, Option, Some, None, Result, Ok, Err, leb, ltb, eqb}
 use Rattle.wire.specs.Choose.{choose, all, within}
 use Rattle.rules.specs.declared.Rules.{Rules}
 use Rattle.rules.specs.declared.Totals.{Totals}
+use Rattle.rules.specs.declared.Sides.{Sides}
 use Rattle.rules.specs.declared.Verdict.{Verdict}
 use Rattle.rules.specs.declared.NoVerdict.{NoVerdict}
 use Rattle.rules.specs.declared.NoVerdict.TheVariants as none
@@ -43,9 +44,17 @@ module _ (P : Rules) where
   abbrev pub tier_factor : (d raw : ℕ) → ℕ
   tier_factor d raw = by_tier d raw P.factor1 P.factor2 P.factor3
 
+  -- The day's verdict: the two sides of a comparison, 100 × score and B × m × lots
+  abbrev pub sides : (B d : ℕ) → Totals → Sides
+  sides B d t = record { scored = 100 * t.score; allowed = B * tier_factor d t.raw * t.lots }
+
   -- The day's verdict: 100 × score > B × m × lots
   abbrev pub exceeds : (B d : ℕ) → Totals → Bool
-  exceeds B d t = ltb (B * tier_factor d t.raw * t.lots) (100 * t.score)
+  exceeds B d t = ltb (sides B d t).allowed (sides B d t).scored
+
+  -- 2.7: both sides of the six-times comparison, 100 × score and 6 × B × m × lots
+  abbrev pub severe_sides : (B d : ℕ) → Totals → Sides
+  severe_sides B d t = sides (P.severe * B) d t
 
   -- The day's verdict: 0 when raw ≤ 20,000; otherwise a fail when 100 × score > B × m × lots, which is 5 (severe) when also
   -- 100 × score > 6 × B × m × lots, else 4 (ordinary); otherwise a pass, 3, 2 or 1 by tier. 2.1: with the code the factor m, 0 where raw is
@@ -107,3 +116,7 @@ number_of v = 10 * v.code + v.factor
 -- The day's verdict, which takes raw, score, lots and B as numbers: the panel's number of a day; 24 still means refused
 unfoldable pub panel_number : Totals → (B : ℕ) → ℕ
 panel_number t B = cond (is_refused 1 t B) 24 (number_of (verdict version96 B 1 t))
+
+-- 2.7: the sides of a day's six-times comparison, where 24 does not refuse the day
+unfoldable pub day_sides : Totals → (B : ℕ) → Option Sides
+day_sides t B = cond (is_refused 1 t B) None (Some (severe_sides version96 B 1 t))

@@ -43,6 +43,16 @@ asked-good causes (good k) {a} e = by (eqb (choose (causes k) 0) 0) (choose (cau
     by true n e = e
     by false n e = absurd (refused-good e)
 
+-- and no cause held
+pub asked-passed : {A : Type 0} (causes : A → List (Bool × ℕ)) (x : Outcome A) {a : A} → follow x (λ k. asked (causes k) (good k)) ≡ good a
+    → choose (causes a) 0 ≡ 0
+asked-passed causes (refused n o) e = absurd (refused-good e)
+asked-passed causes (good k) {a} e = by (eqb (choose (causes k) 0) 0) refl e
+  where
+    by : (b : Bool) → eqb (choose (causes k) 0) 0 ≡ b → cond b (good k) (refused (choose (causes k) 0) 0) ≡ good a → choose (causes a) 0 ≡ 0
+    by true z e = let same : k ≡ a = cc in rw (← same) (eqb-true (choose (causes k) 0) 0 z)
+    by false z e = absurd (refused-good e)
+
 -- where a good schedule ends: P holds there, no bytes are left, and the layout is that of the place
 record Ended (S : List ℕ) (P : Cursor → Type 0) (l : Layout) : Type 0 where
   place : Cursor

@@ -60,39 +60,26 @@ module _ (S B C G out : List ℕ) where
       go (good l) q = under l (ltb (length out) (need (granted_month S B C G l))) refl (rw q at e)
 
 -- a month that holds the groups, verdicts and marks of a judged one
-module _ (S : List ℕ) (l : Layout) (c : DailyTotals) (named : (i : ℕ) → Bool) (m : Month) (held : HeldMonth S l c named m) where
+module _ (S : List ℕ) (l : Layout) (B : List ℕ) (f : ℕ) (named : (i : ℕ) → Bool) (m : Month) (held : HeldMonth S l B f named m) where
   abbrev j : Judged
-  j = month_of S l c named
-
-  held-mark : (i : ℕ) → i < places → held_mark m i ≡ mark (rules_of S) j i
-  held-mark i h = rw held.marks (table_at (mark (rules_of S) j) places i 0 h)
-
-  held-factor : (i : ℕ) → i < places → held_factor m i ≡ (j.verdict i).factor
-  held-factor i h =
-      let v : get_or m.verdicts i not_judged ≡ j.verdict i = rw held.verdicts (table_at j.verdict places i not_judged h) in
-      ap (λ (v : Verdict). v.factor) v
-
-  held-group : (i : ℕ) → i < places → held_group m.groups i ≡ group_month S l c (group_of i)
-  held-group i h = rw held.groups (table_at (group_month S l c) 32 (group_of i) no_group (omega arith))
-
-  held-fields : (i : ℕ) → i < places → held_fields S m (group_of i) ≡ group_at S l (group_of i)
-  held-fields i h = ap (λ (g : GroupMonth). group_fields (body_at S g.start)) (held-group i h)
+  j = month_of_firm S l B f named
 
   pub held_need_is : held_need m ≡ need j
   held_need_is =
       ap (λ (n : ℕ). line_size * n + both_totals)
-      (sum_same places _ _ (λ i h. ap (λ (k : ℕ). bit (not (eqb k 0))) (held-mark i h)) ∙ marks-count (rules_of S) j)
+      (sum_same places _ _ (λ i h. ap (λ (k : ℕ). bit (not (eqb k 0))) (held-mark S l B f named m held i h)) ∙ marks-count (rules_of S) j)
 
   pub held_shown_is : held_shown (rules_of S) S m ≡ statement_bytes S l j
   held_shown_is =
-      shown_same (rules_of S) _ _ _ _ _ _ _ _ held-fields (λ i h. ap (λ (g : GroupMonth). g.grouping) (held-group i h)) held-mark held-factor
+      shown_same (rules_of S) _ _ _ _ _ _ _ _ (held-fields S l B f named m held)
+      (λ i h. ap (λ (g : GroupMonth). g.grouping) (held-group S l B f named m held i h)) (held-mark S l B f named m held) (held-factor S l B f named m held)
 
 -- what is written of a firm's month, or refused by 23, is the firm's statement
 pub stated : (S B C G out : List ℕ) {m : Month} {a : Outcome ℕ} {out' : List ℕ} → GrantedIs S B C G (Ok m) → HeldIs S m out a out' → StatementIs S B C G out a out'
 stated S B C G out {m} told w =
     let e = sym told.answer in
-    let n = held_need_is S m.layout (firm_totals S B C m.layout) (named S m.layout C G) m told.held in
-    let s = held_shown_is S m.layout (firm_totals S B C m.layout) (named S m.layout C G) m told.held in
+    let n = held_need_is S m.layout B (firm_place S m.layout C) (named S m.layout C G) m told.held in
+    let s = held_shown_is S m.layout B (firm_place S m.layout C) (named S m.layout C G) m told.held in
     record { answer = rw e (rw (n, s) at w.answer); output = rw e (rw (n, s) at w.output) }
 
 -- a statement's answer

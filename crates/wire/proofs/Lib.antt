@@ -8,3 +8,4 @@ pub mod Tables
 pub mod Folds
 pub mod Cut
 pub mod Calls
+pub mod Counts

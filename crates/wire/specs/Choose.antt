@@ -1,6 +1,6 @@
 -- Tables of cases, and tests over lists and ranges of numbers.
 -- Assumes nothing.
-use Rattle.std.specs.Prelude.{ℕ, zero, suc, ◌-◌, Bool, true, cond, ◌&&◌, List, [], ◌∷◌, leb, ltb}
+use Rattle.std.specs.Prelude.{ℕ, zero, suc, ◌-◌, Bool, true, cond, ◌&&◌, List, [], ◌∷◌, Option, Some, None, leb, ltb}
 
 -- what stands beside the first test that holds, else the last value: a table that is read from top to bottom
 unfoldable pub choose : {A : Type 0} → List (Bool × A) → A → A
@@ -28,3 +28,8 @@ seek i n p = seek_in (n - i) i p
 -- p holds at some place below n
 abbrev pub some : (n : ℕ) → (ℕ → Bool) → Bool
 some n p = ltb (seek 0 n p) n
+
+-- the last place below n at which p holds
+unfoldable pub last_below : (n : ℕ) → (ℕ → Bool) → Option ℕ
+last_below zero p = None
+last_below (suc n) p = cond (p n) (Some n) (last_below n p)

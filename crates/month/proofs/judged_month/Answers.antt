@@ -22,6 +22,7 @@ returns c =
     let codes = c.codes_of.ensures ∙ codes_table _ _ v.ensures in
     record {
       layout = refl;
+      firm = refl;
       groups = g.ensures;
       verdicts = v.ensures;
       marks = c.give_marks-marks.ensures

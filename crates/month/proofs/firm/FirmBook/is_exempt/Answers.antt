@@ -18,12 +18,12 @@ returns c =
     let g = c.args.g in
     let t = terms_of s in
     let traffic : DailyTotals = totals_of s in
-    let fit = counted_fits s.schedule.bytes.now s.book.now s.firm s.sound g c.requires in
+    let fit = counted_fits s.schedule.bytes.now s.book.now s.firm s.sound g c.requires.g_lt_most_groups in
     -- the verdict is that on the group's sums
     let decided = ap verdict_in c.days_verdict.ensures
-    ∙ ap (λ t. verdict_in (days_verdict c.month_sums-sums.result.days t c.from-benchmark.result)) c.from-2.ensures
+    ∙ ap (λ t. verdict_in (days_verdict c.args.sums.days t c.from-benchmark.result)) c.from-2.ensures
     ∙ ap₂ (λ (s : MonthSums) B. verdict_in (days_verdict s.days (summed_totals s) B))
-    c.month_sums-sums.ensures (c.from-benchmark.ensures ∙ ap (λ g. g.benchmark) c.group.ensures) in
+    c.requires.sums_value (c.from-benchmark.ensures ∙ ap (λ g. g.benchmark) c.group.ensures) in
     let benchmark = (group-listed s.schedule.bytes.now s.sound.checked g (rw c.from.ensures at c.if-from-g.false)).benchmark in
     ap not (c.is_violation.ensures ∙ ap (λ v. is_violation v.code) (verdict_told c.days_verdict.result c.unwrap_or-verdict.ensures))
     ∙ ap (λ v. not (is_violation v.code)) decided

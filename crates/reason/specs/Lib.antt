@@ -1,0 +1,3 @@
+pub mod Beside
+pub mod Reason
+pub mod Parts
