@@ -1,38 +1,32 @@
 -- What a statement of a firm's month comes to: a refused month refuses it, and what is written lies within the output; and what the arrays of
 -- a month show is what the month shows.
-use Prim.Native.Nat.{ℕ, ◌+◌, ◌*◌, ◌≤◌, ◌<◌}
+use Prim.Native.Nat.{ℕ, ◌+◌, ◌*◌, ◌≤◌}
 use mathlib.Core.Bool.{Bool, true, false, cond, not}
 use mathlib.Core.List.{List}
 use mathlib.Core.Path.{◌≡◌, refl, sym, ap, ◌∙◌}
 use native.Mathlib.Omega.{arith}
 use lib.Dec.{eqb, ltb}
-use lib.ListN.{length, get_or}
+use lib.ListN.{length}
 use borrow.Author.Tests.{ltb-false}
 use Rattle.std.specs.Prelude.{Ok}
 use Rattle.std.proofs.lemmas.Result.{err_from_is_err_and}
 use Rattle.wire.specs.Sums.{bit}
-use Rattle.wire.proofs.Lists.{table_at}
 use Rattle.wire.proofs.Sums.{sum_same}
-use Rattle.rules.specs.Verdict.{not_judged}
-use Rattle.rules.specs.declared.Verdict.{Verdict}
-use Rattle.rules.specs.Month.{DailyTotals}
-use Rattle.rules.specs.Marks.{places, group_of, Judged, mark}
-use Rattle.records.specs.Bodies.{body_at}
-use Rattle.records.specs.Fields.{group_fields}
+use Rattle.rules.specs.Marks.{places, Judged}
 use Rattle.refusals.specs.Outcome.{Outcome, refused, good}
-use Rattle.lookup.specs.Lookup.{group_at}
+use Rattle.lookup.specs.Lookup.{firm_place}
 use Rattle.lookup.specs.InForce.{rules_of}
 use Rattle.lookup.specs.declared.Layout.{Layout}
 use Rattle.schedule.proofs.Good.{refused-good}
-use Rattle.month.specs.Month.{month_of, group_month, firm_totals, HeldMonth}
+use Rattle.month.specs.Month.{month_of_firm, HeldMonth}
 use Rattle.grants.specs.Grants.{named}
 use Rattle.grants.specs.Month.{granted_month, granted_answer, GrantedIs}
 use Rattle.statement.specs.Layout.{line_size, both_totals}
 use Rattle.statement.specs.Statement.{statement_bytes, need, statement_answer, StatementIs}
-use Rattle.month.specs.Parts.{no_group, held_group}
 use Rattle.month.specs.declared.GroupMonth.{GroupMonth}
 use Rattle.month.specs.declared.Month.{Month}
-use Rattle.statement.specs.Parts.{held_mark, held_factor, held_fields, held_need, held_shown, HeldIs}
+use Rattle.month.proofs.Held.{held-mark, held-factor, held-group, held-fields}
+use Rattle.statement.specs.Parts.{held_need, held_shown, HeldIs}
 use Rattle.statement.proofs.Shown.{marks-count, bytes-length, shown_same}
 
 module _ (S B C G out : List ℕ) where
