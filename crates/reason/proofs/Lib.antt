@@ -4,3 +4,7 @@ pub mod Said
 pub mod Marks
 pub mod Held
 pub mod Answers
+pub mod Answered
+pub mod Severe
+pub mod Waived
+pub mod Laws

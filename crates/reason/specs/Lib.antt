@@ -1,3 +1,4 @@
 pub mod Beside
 pub mod Reason
 pub mod Parts
+pub mod Laws

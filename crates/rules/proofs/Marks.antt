@@ -38,22 +38,27 @@ record Given (f s x w g : Bool) (m₀ m : ℕ) : Type 0 where
   monthly : eqb m 3 ≡ eqb m₀ 3
   automatic : eqb m 4 ≡ eqb m₀ 4
   granted : eqb m 5 ≡ g && is_billed m₀
+  -- which tests give each mark
+  is_1 : eqb m 1 ≡ s && not g
+  is_2 : eqb m 2 ≡ f && (not x && (not w && not g))
+  is_3 : eqb m 3 ≡ f && x
+  is_4 : eqb m 4 ≡ f && (not x && w)
 
 abbrev by_tests : (f s x w : Bool) → ℕ
 by_tests f s x w = choose ((not (f || s), 0) ∷ (s, 1) ∷ (x, 3) ∷ (w, 4) ∷ []) 2
 
 given : {f s : Bool} → Kind f s → (x w g : Bool) → Given f s x w g (by_tests f s x w) (granted_mark g (by_tests f s x w))
 unfolding choose
-given none x w true = record { none = refl; one = refl; bill = refl; monthly = refl; automatic = refl; granted = refl }
-given none x w false = record { none = refl; one = refl; bill = omega arith; monthly = refl; automatic = refl; granted = refl }
-given severe x w true = record { none = refl; one = refl; bill = refl; monthly = refl; automatic = refl; granted = refl }
-given severe x w false = record { none = refl; one = refl; bill = omega arith; monthly = refl; automatic = refl; granted = refl }
-given ordinary true w true = record { none = refl; one = refl; bill = refl; monthly = refl; automatic = refl; granted = refl }
-given ordinary true w false = record { none = refl; one = refl; bill = omega arith; monthly = refl; automatic = refl; granted = refl }
-given ordinary false true true = record { none = refl; one = refl; bill = refl; monthly = refl; automatic = refl; granted = refl }
-given ordinary false true false = record { none = refl; one = refl; bill = refl; monthly = refl; automatic = refl; granted = refl }
-given ordinary false false true = record { none = refl; one = refl; bill = refl; monthly = refl; automatic = refl; granted = refl }
-given ordinary false false false = record { none = refl; one = refl; bill = refl; monthly = refl; automatic = refl; granted = refl }
+given none x w true = record { none = refl; one = refl; bill = refl; monthly = refl; automatic = refl; granted = refl; is_1 = refl; is_2 = refl; is_3 = refl; is_4 = refl }
+given none x w false = record { none = refl; one = refl; bill = omega arith; monthly = refl; automatic = refl; granted = refl; is_1 = refl; is_2 = refl; is_3 = refl; is_4 = refl }
+given severe x w true = record { none = refl; one = refl; bill = refl; monthly = refl; automatic = refl; granted = refl; is_1 = refl; is_2 = refl; is_3 = refl; is_4 = refl }
+given severe x w false = record { none = refl; one = refl; bill = omega arith; monthly = refl; automatic = refl; granted = refl; is_1 = refl; is_2 = refl; is_3 = refl; is_4 = refl }
+given ordinary true w true = record { none = refl; one = refl; bill = refl; monthly = refl; automatic = refl; granted = refl; is_1 = refl; is_2 = refl; is_3 = refl; is_4 = refl }
+given ordinary true w false = record { none = refl; one = refl; bill = omega arith; monthly = refl; automatic = refl; granted = refl; is_1 = refl; is_2 = refl; is_3 = refl; is_4 = refl }
+given ordinary false true true = record { none = refl; one = refl; bill = refl; monthly = refl; automatic = refl; granted = refl; is_1 = refl; is_2 = refl; is_3 = refl; is_4 = refl }
+given ordinary false true false = record { none = refl; one = refl; bill = refl; monthly = refl; automatic = refl; granted = refl; is_1 = refl; is_2 = refl; is_3 = refl; is_4 = refl }
+given ordinary false false true = record { none = refl; one = refl; bill = refl; monthly = refl; automatic = refl; granted = refl; is_1 = refl; is_2 = refl; is_3 = refl; is_4 = refl }
+given ordinary false false false = record { none = refl; one = refl; bill = refl; monthly = refl; automatic = refl; granted = refl; is_1 = refl; is_2 = refl; is_3 = refl; is_4 = refl }
 
 -- a severe violation of the grouping e, and a waiver of it is free
 abbrev pub severe_in : Judged → (e i : ℕ) → Bool
@@ -75,6 +80,19 @@ module _ (P : Rules) (j : Judged) (i : ℕ) where
 
   pub mark-none : eqb (mark P j i) 0 ≡ not (is_violation (j.verdict i).code)
   mark-none = marked_by.none
+
+  -- each of the first four marks by its tests
+  pub mark_severe : eqb (mark P j i) 1 ≡ is_severe (j.verdict i).code && not (j.named i)
+  mark_severe = marked_by.is_1
+
+  pub mark_billed : eqb (mark P j i) 2 ≡ eqb (j.verdict i).code 4 && (not (j.exempt i) && (not (free P j (j.grouping i) i) && not (j.named i)))
+  mark_billed = marked_by.is_2
+
+  pub mark_monthly : eqb (mark P j i) 3 ≡ eqb (j.verdict i).code 4 && j.exempt i
+  mark_monthly = marked_by.is_3
+
+  pub mark_automatic : eqb (mark P j i) 4 ≡ eqb (j.verdict i).code 4 && (not (j.exempt i) && free P j (j.grouping i) i)
+  mark_automatic = marked_by.is_4
 
   module _ (e : ℕ) where
     -- one violation of the grouping e has one mark

@@ -2,21 +2,24 @@
 use Prim.Native.Nat.{ℕ, ◌<◌}
 use mathlib.Core.Bool.{Bool, true, false}
 use mathlib.Core.List.{List}
-use mathlib.Core.Path.{◌≡◌, sym, ap, ◌∙◌}
+use mathlib.Core.Path.{◌≡◌, refl, sym, ap, ◌∙◌}
+use native.Mathlib.Omega.{arith}
 use Rattle.std.specs.Prelude.{Some, None}
+use Rattle.std.proofs.lemmas.Slice.Eq.{bytes_eq-Decides}
 use Rattle.wire.specs.Choose.{within}
 use Rattle.wire.proofs.Choose.{each, none_at}
 use Rattle.rules.specs.Verdict.{is_benchmark}
-use Rattle.records.specs.Fields.{are_letters, group_in_range}
+use Rattle.records.specs.Bodies.{rest_at}
+use Rattle.records.specs.Fields.{are_letters, group_fields, group_in_range}
 use Rattle.records.specs.declared.fields.Group.{Group}
 use Rattle.refusals.specs.Outcome.{good}
-use Rattle.lookup.specs.Lookup.{group_is, group_listed, firm_is, firm_listed, group_at, group_found_at, group_found, firm_found}
+use Rattle.lookup.specs.Lookup.{group_start, group_is, group_listed, firm_is, firm_listed, group_at, group_found_at, group_found, firm_found}
 use Rattle.schedule.specs.Check.{check_of}
 use Rattle.schedule.specs.Good.{Once, Only, Searched}
 use Rattle.lookup.specs.declared.GroupPlace.{GroupPlace}
 use Rattle.lookup.specs.declared.Layout.{Layout}
 use Rattle.lookup.proofs.Laws.{FoundAt, firm-found, firm_unlisted, group-found, group_placed, group_unlisted}
-use Rattle.schedule.proofs.Good.{good-schedule}
+use Rattle.schedule.proofs.Good.{body_byte, good-schedule}
 
 -- what was found is the only one, where no code is repeated
 only : {n : ℕ} {p : ℕ → Bool} {i : ℕ} → Once n p → FoundAt n p i → Only n p i
@@ -48,6 +51,22 @@ in_range g e =
 module _ (S : List ℕ) {l : Layout} (e : check_of S ≡ good l) where
   pub group-listed : (g : ℕ) → g < l.groups → InRange (group_at S l g)
   group-listed g h = in_range (group_at S l g) ((good-schedule S e).ranges g h)
+
+  -- a listed group's code is that by which it is found
+  code_found : (g : ℕ) → g < l.groups → (group_fields (rest_at S (group_start S l.first g))).code ≡ (group_at S l g).code
+  unfolding group_fields
+  code_found g h =
+      let at = group_start S l.first g in
+      let size = ((good-schedule S e).groups g h).size in
+      rw (body_byte S at 0 (omega arith), body_byte S at 1 (omega arith)) refl
+
+  pub group-code : (C : List ℕ) (g : ℕ) → g < l.groups → group_is S l.first C g ≡ true → (group_at S l g).code ≡ C
+  unfolding group_is
+  group-code C g h t = sym (code_found g h) ∙ (bytes_eq-Decides _ C).0 t
+
+  pub group-own : (g : ℕ) → g < l.groups → group_is S l.first (group_at S l g).code g ≡ true
+  unfolding group_is
+  group-own g h = (bytes_eq-Decides _ (group_at S l g).code).1 (code_found g h)
 
   only_group : (C : List ℕ) {g : GroupPlace} → group_found S l C ≡ Some g → Only l.groups (group_is S l.first C) g.index
   only_group C f = only ((good-schedule S e).group_once C) (group-found S l C (sym f))

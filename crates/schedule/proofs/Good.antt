@@ -137,7 +137,7 @@ sound_begin S =
     }
 
 -- the bytes of a body are those after length and kind
-body_byte : (S : List ℕ) (at k : ℕ) → k + 4 < length_at S at → get_or (body_at S at) k 0 ≡ get_or (rest_at S at) k 0
+pub body_byte : (S : List ℕ) (at k : ℕ) → k + 4 < length_at S at → get_or (body_at S at) k 0 ≡ get_or (rest_at S at) k 0
 body_byte S at k h = get_or-take (length_at S at - 4) (rest_at S at) k 0 (omega arith)
 
 -- a group whose code is not listed before it has no other's code

@@ -1,9 +1,9 @@
 -- Places by their number among those at which a test holds: the last of them, the one with a number, and how many a limit lets through.
-use Prim.Native.Nat.{ℕ, zero, suc, ◌+◌, ◌<◌, min}
+use Prim.Native.Nat.{ℕ, zero, suc, ◌+◌, ◌≤◌, ◌<◌, min}
 use mathlib.Core.Bool.{Bool, true, false, cond, ◌&&◌}
 use mathlib.Core.Logic.{⊎_elim}
 use mathlib.Core.Path.{◌≡◌, refl, sym}
-use native.Mathlib.Nat.{eq-or-lt_of_le}
+use native.Mathlib.Nat.{eq-or-lt_of_le, le_refl, add-zero, add-suc}
 use native.Mathlib.Numerals.{add-one}
 use native.Mathlib.Omega.{arith}
 use lib.Dec.{ltb}
@@ -65,6 +65,12 @@ pub last_same : (n : ℕ) (p q : ℕ → Bool) → ((i : ℕ) → i < n → p i 
 unfolding last_below
 last_same zero p q h = refl
 last_same (suc n) p q h = rw (h n (omega arith), last_same n p q (λ i l. h i (omega arith)))
+
+-- a count rises with the places
+pub count_rises : (n d : ℕ) (p : ℕ → Bool) → count n p ≤ count (n + d) p
+unfolding sum
+count_rises n zero p = rw add-zero (le_refl _)
+count_rises n (suc d) p = rw add-suc (omega (arith, count_rises n d p))
 
 -- the place before which p holds k times
 pub record Numbered (n : ℕ) (p : ℕ → Bool) (k i : ℕ) : Type 0 where

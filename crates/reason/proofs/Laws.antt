@@ -1,0 +1,162 @@
+-- What is said of a day and group is true: a mark tells the tests that gave it.
+use Prim.Native.Nat.{ℕ, ◌+◌, ◌-◌, ◌≤◌, ◌<◌}
+use mathlib.Core.Bool.{Bool, true, false, not, false≢true}
+use mathlib.Core.List.{List, []}
+use mathlib.Core.Path.{◌≡◌, refl, sym, ap, ◌∙◌}
+use native.Mathlib.Omega.{arith}
+use lib.Dec.{eqb, ltb}
+use borrow.Author.Tests.{ltb-true, ltb-false, eqb-true, eq-eqb, not-true}
+use Rattle.std.specs.Cmp.{first_so, second_so}
+use Rattle.wire.specs.Sums.{count}
+use Rattle.wire.proofs.Counts.{count_rises}
+use Rattle.rules.specs.Verdict.{is_violation, is_severe}
+use Rattle.rules.specs.Month.{Terms, DailyTotals}
+use Rattle.rules.specs.Marks.{places, Judged, left, mark}
+use Rattle.rules.specs.declared.Rules.{Rules}
+use Rattle.rules.proofs.Marks.{mark_severe, mark_billed, mark_monthly, mark_automatic, mark_granted, mark-none}
+use Rattle.lookup.specs.Lookup.{group_at}
+use Rattle.lookup.specs.InForce.{rules_of}
+use Rattle.month.specs.Month.{terms, firm_totals}
+use Rattle.grants.specs.Month.{granted_month}
+use Rattle.reason.specs.Beside.{Said, waivers_in}
+use Rattle.reason.specs.Reason.{place_of}
+use Rattle.reason.specs.Laws.{SevereIs, MonthlyIs, AutomaticIs, GrantedIs, BilledIs, IsTrue, Laws}
+use Rattle.reason.proofs.Said.{no-violation, severe-said, billed-said, monthly-said, automatic-said, granted-said}
+use Rattle.reason.specs.declared.waivers.LastTwo.{LastTwo}
+use Rattle.std.specs.Prelude.{Some}
+use Rattle.reason.proofs.Answered.{Answered, answered, placed}
+use Rattle.reason.proofs.Severe.{tier, above_six}
+use Rattle.reason.proofs.Waived.{waived, waived-count, Two, two_before}
+
+module _ (S B C : List ℕ) (day : ℕ) (code G : List ℕ) {s : Said} (a : Answered S B C day code G s) where
+  abbrev i : ℕ
+  i = place_of S day code a.l
+
+  abbrev P : Rules
+  P = rules_of S
+
+  abbrev c : DailyTotals
+  c = firm_totals S B C a.l
+
+  abbrev t : Terms
+  t = terms S a.l
+
+  abbrev j : Judged
+  j = granted_month S B C G a.l
+
+  abbrev e : ℕ
+  e = j.grouping i
+
+  mark-is : s.mark ≡ mark P j i
+  mark-is = ap (λ (x : Said). x.mark) a.is
+
+  -- a mark's test holds
+  shows : (n : ℕ) → mark P j i ≡ n → eqb (mark P j i) n ≡ true
+  shows n m = eq-eqb (mark P j i) n m
+
+  none_true : mark P j i ≡ 0 → (s.values ≡ []) × (is_violation (j.verdict i).code ≡ false)
+  none_true m =
+      (
+        ap (λ (x : Said). x.values) (a.is ∙ no-violation _ _ _ _ _ i m),
+        not-true (is_violation (j.verdict i).code) (sym (mark-none P j i) ∙ shows 0 m),
+      )
+
+  severe_true : mark P j i ≡ 1 → SevereIs P t c j (group_at S a.l) i s.values
+  severe_true m =
+      let code : is_severe (j.verdict i).code ≡ true = first_so (is_severe (j.verdict i).code) _ (sym (mark_severe P j i) ∙ shows 1 m) in
+      let m-is = tier P t c j.named i code in
+      let above = ltb-true _ _ (above_six P t c j.named i code) in
+      record {
+        sides = ap (λ (x : Said). x.values) (a.is ∙ severe-said _ _ _ _ _ i m) ∙ rw m-is refl;
+        above = rw m-is above;
+      }
+
+  monthly_true : mark P j i ≡ 3 → MonthlyIs P t c j (group_at S a.l) i s.values
+  monthly_true m =
+      record {
+        shown = ap (λ (x : Said). x.values) (a.is ∙ monthly-said _ _ _ _ _ i m);
+        exempt = second_so (eqb (j.verdict i).code 4) _ (sym (mark_monthly P j i) ∙ shows 3 m);
+      }
+
+  automatic_true : mark P j i ≡ 4 → AutomaticIs P t c j (group_at S a.l) i s.values
+  automatic_true m =
+      let tests = second_so (eqb (j.verdict i).code 4) _ (sym (mark_automatic P j i) ∙ shows 4 m) in
+      let free = ltb-true (count i (left j e)) 2 (second_so (not (j.exempt i)) _ tests) in
+      let n : count i (waived P j e) ≡ count i (left j e) = omega (arith, free, waived-count P j e i) in
+      record { number = ap (λ (x : Said). x.values) (a.is ∙ automatic-said _ _ _ _ _ i m) ∙ rw n refl }
+
+  granted_true : mark P j i ≡ 5 → GrantedIs P t c j (group_at S a.l) i s.values
+  granted_true m =
+      let tests = sym (mark_granted P j i) ∙ shows 5 m in
+      record {
+        nothing_more = ap (λ (x : Said). x.values) (a.is ∙ granted-said _ _ _ _ _ i m);
+        named = first_so (j.named i) _ tests;
+        would_cost = second_so (j.named i) _ tests;
+      }
+
+  -- two were left before a billed line
+  two_left : mark P j i ≡ 2 → 2 ≤ count i (left j e)
+  two_left m =
+      let tests = second_so (not (j.exempt i)) _ (second_so (eqb (j.verdict i).code 4) _ (sym (mark_billed P j i) ∙ shows 2 m)) in
+      ltb-false (count i (left j e)) 2 (not-true (ltb (count i (left j e)) 2) (first_so (not (ltb (count i (left j e)) 2)) _ tests))
+
+  waivers : mark P j i ≡ 2 → Two places (waived P j e) i
+  waivers m =
+      let inside = (placed S B C day code G a).inside in
+      let few = two_left m in
+      let rise = count_rises i (places - i) (left j e) in
+      let all : i + (places - i) ≡ places = omega arith in
+      two_before places (waived P j e) i (omega arith)
+      (omega (arith, few, waived-count P j e i))
+      (omega (arith, few, rw all at rise, waived-count P j e places))
+
+  -- a place of the grouping with mark 4 is an automatic line of it, and the other way round
+  line_is : (k : ℕ) → waived P j e k ≡ true → (j.grouping k ≡ e) × (mark P j k ≡ 4)
+  line_is k q = (eqb-true (j.grouping k) e (first_so (eqb (j.grouping k) e) _ q), eqb-true (mark P j k) 4 (second_so (eqb (j.grouping k) e) _ q))
+
+  is_line : (k : ℕ) → (j.grouping k ≡ e) × (mark P j k ≡ 4) → waived P j e k ≡ true
+  is_line k q = rw (eq-eqb (j.grouping k) e q.0, eq-eqb (mark P j k) 4 q.1) refl
+
+  no-other : (w : Two places (waived P j e) i) → (k : ℕ) → w.a < k → k < places → (j.grouping k ≡ e) × (mark P j k ≡ 4) → k ≡ w.b
+  no-other w k l h q = go (ltb k w.b) (ltb w.b k) refl refl
+    where
+      go : (x y : Bool) → ltb k w.b ≡ x → ltb w.b k ≡ y → k ≡ w.b
+      go true y p r = absurd (false≢true (sym (w.first_is.after k l (ltb-true k w.b p)) ∙ is_line k q))
+      go false true p r = absurd (false≢true (sym (w.last_is.after k (ltb-true w.b k r) h) ∙ is_line k q))
+      go false false p r = omega (arith, ltb-false k w.b p, ltb-false w.b k r)
+
+  billed_true : mark P j i ≡ 2 → BilledIs P t c j (group_at S a.l) i s.values
+  billed_true m =
+      let w = waivers m in
+      let two : ◌≡◌ {A = LastTwo} (record { first = Some w.a; second = Some w.b }) (waivers_in j.grouping (mark P j) e) = rw (w.last_is.is, w.first_is.is) refl in
+      let tests = second_so (eqb (j.verdict i).code 4) _ (sym (mark_billed P j i) ∙ shows 2 m) in
+      record {
+        a = w.a;
+        b = w.b;
+        shown = ap (λ (x : Said). x.values) (a.is ∙ billed-said _ _ _ _ _ i m two refl refl);
+        fails = not-true (j.exempt i) (first_so (not (j.exempt i)) _ tests);
+        first = line_is w.a w.first_is.holds;
+        second = line_is w.b w.last_is.holds;
+        earlier = w.first_is.inside;
+        before = w.before;
+        no_other = no-other w;
+      }
+
+  is-true : IsTrue S B C day code G s
+  is-true =
+      record {
+        l = a.l;
+        i = i;
+        holds = a.holds;
+        place = placed S B C day code G a;
+        mark_is = mark-is;
+        none = λ m. none_true (sym mark-is ∙ m);
+        severe = λ m. severe_true (sym mark-is ∙ m);
+        billed = λ m. billed_true (sym mark-is ∙ m);
+        monthly = λ m. monthly_true (sym mark-is ∙ m);
+        automatic = λ m. automatic_true (sym mark-is ∙ m);
+        granted = λ m. granted_true (sym mark-is ∙ m);
+      }
+
+pub laws : (S B C : List ℕ) (day : ℕ) (code G : List ℕ) → Laws S B C day code G
+laws S B C day code G s e = is-true S B C day code G (answered S B C day code G e)
