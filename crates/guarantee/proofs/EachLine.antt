@@ -84,7 +84,7 @@ reads day mark g v ys =
     }
 
 -- the line of a violation, in the bytes of its month and whatever stands behind them
-line_read : (S : List ℕ) (l : Layout) (j : Judged) (i : ℕ) → i < places → is_violation (j.verdict i).code ≡ true → (ys : List ℕ)
+pub line_read : (S : List ℕ) (l : Layout) (j : Judged) (i : ℕ) → i < places → is_violation (j.verdict i).code ≡ true → (ys : List ℕ)
     → LineIs version96 (drop (line_size * before S l j i) (statement_bytes S l j ++ ys)) (day_of i) (group_at S l (group_of i)) (mark version96 j i) (j.verdict i)
 unfolding shown
 line_read S l j i h v ys =

@@ -1,3 +1,4 @@
 pub mod Demand3
 pub mod EachLine
+pub mod OwnMark
 pub mod Example

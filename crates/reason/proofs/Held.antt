@@ -102,7 +102,7 @@ module _ (groups groups' : (g : ℕ) → Group) (sums sums' : (g : ℕ) → Mont
     said_same k e = by_mark k (m i l ∙ e) e
 
 -- a place that is listed and in effect, or not, by its verdict
-on_place : (b : Bool) (v : Verdict) → is_violation (cond b v not_judged).code ≡ true → b ≡ true
+pub on_place : (b : Bool) (v : Verdict) → is_violation (cond b v not_judged).code ≡ true → b ≡ true
 on_place true v e = refl
 on_place false v e = absurd (false≢true e)
 

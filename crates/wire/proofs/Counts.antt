@@ -1,8 +1,8 @@
 -- Places by their number among those at which a test holds: the last of them, the one with a number, and how many a limit lets through.
-use Prim.Native.Nat.{ℕ, zero, suc, ◌+◌, ◌≤◌, ◌<◌, min}
+use Prim.Native.Nat.{ℕ, zero, suc, ◌+◌, ◌-◌, ◌≤◌, ◌<◌, min}
 use mathlib.Core.Bool.{Bool, true, false, cond, ◌&&◌}
 use mathlib.Core.Logic.{⊎_elim}
-use mathlib.Core.Path.{◌≡◌, refl, sym}
+use mathlib.Core.Path.{◌≡◌, refl, sym, ap, ◌∙◌}
 use native.Mathlib.Nat.{eq-or-lt_of_le, le_refl, add-zero, add-suc}
 use native.Mathlib.Numerals.{add-one}
 use native.Mathlib.Omega.{arith}
@@ -11,6 +11,7 @@ use borrow.Author.Tests.{ltb-true, ltb-false}
 use Rattle.std.specs.Prelude.{Some, None}
 use Rattle.wire.specs.Choose.{last_below}
 use Rattle.wire.specs.Sums.{bit, sum, count}
+use Rattle.wire.proofs.Sums.{sum_more}
 
 pub last-none : (p : ℕ → Bool) → last_below 0 p ≡ None
 unfolding last_below
@@ -71,6 +72,14 @@ pub count_rises : (n d : ℕ) (p : ℕ → Bool) → count n p ≤ count (n + d)
 unfolding sum
 count_rises n zero p = rw add-zero (le_refl _)
 count_rises n (suc d) p = rw add-suc (omega (arith, count_rises n d p))
+
+-- a place at which the test holds is one more
+pub count_before : (n : ℕ) (p : ℕ → Bool) (i : ℕ) → i < n → p i ≡ true → count i p < count n p
+count_before n p i h e =
+    let rise = count_rises (i + 1) (n - (i + 1)) p in
+    let there : i + 1 + (n - (i + 1)) ≡ n = omega arith in
+    let more : count (i + 1) p ≡ count i p + 1 = sum_more i (λ k. bit (p k)) ∙ ap (λ b. count i p + bit b) e in
+    omega (arith, rw there at rise, more)
 
 -- the place before which p holds k times
 pub record Numbered (n : ℕ) (p : ℕ → Bool) (k i : ℕ) : Type 0 where
