@@ -38,3 +38,33 @@ correction_with zero16 zero32 first second day edition raw score lots =
 -- a correction of its cell
 abbrev pub correction : (first second day edition raw score lots : ℕ) → List ℕ
 correction = correction_with 0 0
+
+-- a record of ABC in a group: new orders, modifications, cancellations and lots
+abbrev pub orders : (first second day new modified cancelled lots : ℕ) → List ℕ
+orders first second day new modified cancelled lots = activity first second day 24239 new modified cancelled 0 0 0 0 lots
+
+-- raw and score of the fifth marked day (122,000, 143,000), with so many lots: code 4 with 10,000, a pass with 20,000
+abbrev pub fifth : (first second day lots : ℕ) → List ℕ
+fifth first second day lots = orders first second day 39000 53000 30000 lots
+
+-- the ninth marked day (60,001, 60,001, 1,000): code 5
+abbrev pub ninth : (first second day : ℕ) → List ℕ
+ninth first second day = orders first second day 0 60001 0 1000
+
+-- the seventh (20,001, 3, 0): code 5, in the lowest tier
+abbrev pub seventh : (first second day : ℕ) → List ℕ
+seventh first second day = orders first second day 20000 0 1 0
+
+-- the eleventh (40,001, 30,000, 1,000): code 4, in the middle tier
+abbrev pub eleventh : (first second day : ℕ) → List ℕ
+eleventh first second day = orders first second day 10001 30000 0 1000
+
+-- day 2 not in effect; ES and ZC of grouping 1, CL of grouping 2
+abbrev pub three_groups : List ℕ
+three_groups = head 2 ++ group 69 83 1 ++ group 67 76 2 ++ group 90 67 1 ++ firm
+
+-- one failing day more in ES on the day not in effect, one in CL, and one in ZC, which has many lots on another day; in each tier one at least
+abbrev pub many_marks : List (List ℕ)
+many_marks =
+    fifth 69 83 1 10000 ∷ fifth 69 83 2 10000 ∷ fifth 69 83 3 10000 ∷ fifth 69 83 4 10000 ∷ seventh 69 83 5
+    ∷ eleventh 67 76 1 ∷ fifth 90 67 1 10000 ∷ orders 90 67 6 1 0 0 1000000 ∷ []

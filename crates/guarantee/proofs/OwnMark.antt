@@ -1,13 +1,13 @@
 -- A statement that is written shows the month that the reason is of. Line k is that of the violation before which k stand, and tells its place: its day, and
 -- its group by the code, since no code is repeated. So a line for the day and group is that of their place, and has its mark.
-use Prim.Native.Nat.{ℕ, ◌+◌, ◌-◌, ◌*◌, ◌/◌, ◌%◌, ◌<◌}
-use mathlib.Core.Bool.{Bool, true, false, cond, not, ◌&&◌, false≢true, not-not}
-use mathlib.Core.List.{List, [], ◌∷◌, ◌++◌}
+use Prim.Native.Nat.{ℕ, ◌+◌, ◌*◌, ◌<◌}
+use mathlib.Core.Bool.{Bool, true, false, cond, not, false≢true, not-not}
+use mathlib.Core.List.{List, [], ◌∷◌}
 use mathlib.Core.Path.{◌≡◌, refl, sym, ap, ap₂, subst, ◌∙◌}
 use native.Mathlib.Omega.{arith}
 use lib.Dec.{eqb, ltb}
 use lib.ListN.{length, get_or, drop}
-use borrow.Author.Tests.{eqb-true, eq-eqb, ltb-true, not-true, not-false}
+use borrow.Author.Tests.{eqb-true, eq-eqb, ltb-true, not-false}
 use Rattle.std.specs.Cmp.{first_so}
 use Rattle.wire.specs.Choose.{all, some}
 use Rattle.wire.specs.Lists.{over}
@@ -19,9 +19,8 @@ use Rattle.rules.specs.Verdict.{version96, is_violation}
 use Rattle.rules.specs.Marks.{places, day_of, group_of, Judged, mark}
 use Rattle.rules.proofs.Marks.{mark-none}
 use Rattle.records.specs.Fields.{group_fields}
-use Rattle.refusals.specs.Outcome.{Outcome, refused, good, follow}
+use Rattle.refusals.specs.Outcome.{refused, good}
 use Rattle.lookup.specs.Lookup.{group_at, group_is}
-use Rattle.lookup.specs.InForce.{rules_of}
 use Rattle.lookup.specs.declared.Layout.{Layout}
 use Rattle.schedule.specs.Check.{check_of}
 use Rattle.schedule.proofs.Good.{refused-good, good-schedule}
@@ -34,8 +33,7 @@ use Rattle.statement.specs.Lines.{first_letter, second_letter}
 use Rattle.statement.specs.Statement.{statement_bytes, need, statement_answer, statement_output}
 use Rattle.statement.proofs.Shown.{two_letters, bytes-length}
 use Rattle.reason.specs.Beside.{Said}
-use Rattle.reason.specs.Reason.{reason_answer}
-use Rattle.reason.specs.Laws.{PlaceIs, BilledIs, IsTrue}
+use Rattle.reason.specs.Laws.{PlaceIs, IsTrue}
 use Rattle.reason.proofs.Held.{on_place}
 use Rattle.reason.proofs.Laws.{laws}
 use Rattle.guarantee.specs.EachLine.{LineIs}

@@ -24,7 +24,7 @@ use Rattle.cell.specs.Cell.{none}
 use Rattle.book.specs.Book.{per_firm_group, index, with_cell, check_book, open_book}
 use Rattle.book.specs.Post.{taking}
 use Rattle.accepted.specs.Accepted.{accepted_cells, posted}
-use Rattle.accepted.specs.Samples.{head, group, ABC, firm, activity, correction}
+use Rattle.accepted.specs.Samples.{head, group, ABC, firm, correction, orders, fifth, ninth, three_groups, many_marks}
 use Rattle.month.specs.Month.{any_excess, month_answer}
 use Rattle.grants.specs.Grants.{grants_causes}
 use Rattle.grants.specs.Month as months
@@ -36,26 +36,6 @@ use Rattle.guarantee.specs.Demand3.{layout, is_listed, totals_after, month_after
 -- document 01's schedule: October 2019, every day in effect, ES of grouping 1, ABC
 abbrev pub schedule : List ℕ
 schedule = head 0 ++ group 69 83 1 ++ firm
-
--- a record of ABC in a group: new orders, modifications, cancellations and lots
-abbrev orders : (first second day new modified cancelled lots : ℕ) → List ℕ
-orders first second day new modified cancelled lots = activity first second day 24239 new modified cancelled 0 0 0 0 lots
-
--- raw and score of the fifth marked day (122,000, 143,000), with so many lots: code 4 with 10,000, a pass with 20,000
-abbrev fifth : (first second day lots : ℕ) → List ℕ
-fifth first second day lots = orders first second day 39000 53000 30000 lots
-
--- the ninth marked day (60,001, 60,001, 1,000): code 5
-abbrev ninth : (first second day : ℕ) → List ℕ
-ninth first second day = orders first second day 0 60001 0 1000
-
--- the seventh (20,001, 3, 0): code 5, in the lowest tier
-abbrev seventh : (first second day : ℕ) → List ℕ
-seventh first second day = orders first second day 20000 0 1 0
-
--- the eleventh (40,001, 30,000, 1,000): code 4, in the middle tier
-abbrev eleventh : (first second day : ℕ) → List ℕ
-eleventh first second day = orders first second day 10001 30000 0 1000
 
 -- the totals of grouping 2 without a violation
 abbrev no_violations : List ℕ
@@ -74,16 +54,6 @@ run_bytes =
     ++ (13 ∷ 0 ∷ 18 ∷ 0 ∷ 4 ∷ 69 ∷ 83 ∷ 1 ∷ 232 ∷ 3 ∷ 0 ∷ 0 ∷ 1 ∷ [])
     ++ (20 ∷ 0 ∷ 19 ∷ 0 ∷ 1 ∷ 0 ∷ 4 ∷ 0 ∷ 0 ∷ 0 ∷ 2 ∷ 0 ∷ 0 ∷ 0 ∷ 2 ∷ 0 ∷ 208 ∷ 7 ∷ 0 ∷ 0 ∷ [])
     ++ no_violations
-
--- day 2 not in effect; ES and ZC of grouping 1, CL of grouping 2
-abbrev pub three_groups : List ℕ
-three_groups = head 2 ++ group 69 83 1 ++ group 67 76 2 ++ group 90 67 1 ++ firm
-
--- one failing day more in ES on the day not in effect, one in CL, and one in ZC, which has many lots on another day; in each tier one at least
-abbrev pub many_marks : List (List ℕ)
-many_marks =
-    fifth 69 83 1 10000 ∷ fifth 69 83 2 10000 ∷ fifth 69 83 3 10000 ∷ fifth 69 83 4 10000 ∷ seventh 69 83 5
-    ∷ eleventh 67 76 1 ∷ fifth 90 67 1 10000 ∷ orders 90 67 6 1 0 0 1000000 ∷ []
 
 -- by day, then by the group's place: the waivers of CL are its own, ZC is exempt, and each line has its own day's factor; grouping 1:
 -- 5 1 2 0 2 2000; grouping 2: 1 0 1 0 0 0

@@ -11,9 +11,8 @@ ghost use Rattle.month.specs.Firm.{bytes_of, layout_of};
 ghost use Rattle.rules.specs.Marks.{no_grants};
 ghost use Rattle.month.specs.Month.{MonthIs, HeldMonth};
 
-pub use days::MonthSums;
-
 use book::check_book;
+pub use days::MonthSums;
 use days::has_excess;
 use firm::FirmBook;
 use groups::group_starts;

@@ -55,11 +55,10 @@ module _ (S B C : List ℕ) (day : ℕ) (code G : List ℕ) {s : Said} (a : Answ
   shows n m = eq-eqb (mark P j i) n m
 
   none_true : mark P j i ≡ 0 → (s.values ≡ []) × (is_violation (j.verdict i).code ≡ false)
-  none_true m =
-      (
-        ap (λ (x : Said). x.values) (a.is ∙ no-violation _ _ _ _ _ i m),
-        not-true (is_violation (j.verdict i).code) (sym (mark-none P j i) ∙ shows 0 m),
-      )
+  none_true m = (
+    ap (λ (x : Said). x.values) (a.is ∙ no-violation _ _ _ _ _ i m),
+    not-true (is_violation (j.verdict i).code) (sym (mark-none P j i) ∙ shows 0 m),
+  )
 
   severe_true : mark P j i ≡ 1 → SevereIs P t c j (group_at S a.l) i s.values
   severe_true m =

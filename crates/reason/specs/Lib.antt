@@ -2,3 +2,4 @@ pub mod Beside
 pub mod Reason
 pub mod Parts
 pub mod Laws
+pub mod Example

@@ -33,7 +33,9 @@ pub enum Explanation {
     // Its group is exempt: R, S, V and d.
     Monthly(MonthSums),
     // Its number, from 1, among the automatic waivers of its exchange grouping.
-    Automatic { number: u16 },
+    Automatic {
+        number: u16,
+    },
     Granted,
     // R, S, V and d, and the last two automatic waivers of its exchange grouping, the earlier first.
     Billed {

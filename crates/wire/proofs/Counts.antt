@@ -35,17 +35,16 @@ last zero p h = absurd (omega arith)
 last (suc n) p h = go (p n) refl (last n p)
   where
     more : p n ≡ false → (k : ℕ) × Last n p k → (k : ℕ) × Last (suc n) p k
-    more e (k, l) =
-        (
-          k,
-          record {
-            is = rw e l.is;
-            inside = omega (arith, l.inside);
-            holds = l.holds;
-            after = λ i a b. ⊎_elim (λ (q : i ≡ n). rw q e) (λ (m : i < n). l.after i a m) (eq-or-lt_of_le (omega arith));
-            number = rw e (omega (arith, l.number));
-          },
-        )
+    more e (k, l) = (
+      k,
+      record {
+        is = rw e l.is;
+        inside = omega (arith, l.inside);
+        holds = l.holds;
+        after = λ i a b. ⊎_elim (λ (q : i ≡ n). rw q e) (λ (m : i < n). l.after i a m) (eq-or-lt_of_le (omega arith));
+        number = rw e (omega (arith, l.number));
+      },
+    )
 
     go : (b : Bool) → p n ≡ b → (0 < count n p → (k : ℕ) × Last n p k) → (k : ℕ) × Last (suc n) p k
     go true e below = (n, record { is = rw e refl; inside = omega arith; holds = e; after = λ i a b. absurd (omega arith); number = rw e refl })

@@ -1,0 +1,136 @@
+-- Computed examples of reasons (document 02, 2.7): every answer, in a month with both exchange groupings; the sides of severe days; two waivers of one day;
+-- days and groups that the schedule doesn't know, and the order of refusals.
+-- Assumes nothing.
+use Rattle.std.specs.Prelude.{ℕ, ◌*◌, List, [], ◌∷◌, ◌++◌, ◌≡◌, refl, take}
+use Rattle.wire.specs.Bytes.{u16_at, u32_at}
+use Rattle.wire.specs.Choose.{choose, all, seek_in, last_below}
+use Rattle.wire.specs.Lists.{joined, table}
+use Rattle.wire.specs.Sums.{sum}
+use Rattle.calendar.specs.Calendar.{days_in}
+use Rattle.rules.specs.Verdict.{verdict}
+use Rattle.records.specs.Fields.{head_fields, head_ok, group_fields, group_in_range, is_letter, firm_fields, firm_ok, has_code}
+use Rattle.contracts.specs.Listing.{contracts_ok, contract_bad, before, contract, listed}
+use Rattle.contracts.specs.Counted.{contract_listed, contract_counted, in_front, is_after, is_counted, contract_is}
+use Rattle.refusals.specs.Outcome.{Outcome, refused, good}
+use Rattle.lookup.specs.Lookup.{group_start, group_is, firm_is, group_listed, firm_listed}
+use Rattle.schedule.specs.Check.{check_of, scan, ending, with_record, cause, is_repeated, fields_ok, is_full, length_ok, is_due, kind_of}
+use Rattle.activity.specs.Activity.{totals_of}
+use Rattle.activity.specs.Correction.{correction_fields}
+use Rattle.book.specs.Book.{per_firm_group, check_book, open_book}
+use Rattle.book.specs.Post.{taking}
+use Rattle.accepted.specs.Accepted.{posted}
+use Rattle.accepted.specs.Samples.{ABC, orders, fifth, ninth, three_groups, many_marks}
+use Rattle.month.specs.Month.{any_excess, month_answer}
+use Rattle.grants.specs.Month.{granted_answer}
+use Rattle.grants.specs.Example.{grant}
+use Rattle.reason.specs.Beside.{Said, values_at}
+use Rattle.reason.specs.Reason.{reason_answer}
+
+-- the groups' codes
+abbrev ES : List ℕ
+ES = 69 ∷ 83 ∷ []
+
+abbrev CL : List ℕ
+CL = 67 ∷ 76 ∷ []
+
+abbrev ZC : List ℕ
+ZC = 90 ∷ 67 ∷ []
+
+-- a firm that is unlisted, and a group
+abbrev ZZZ : List ℕ
+ZZZ = 90 ∷ 90 ∷ 90 ∷ []
+
+abbrev XX : List ℕ
+XX = 88 ∷ 88 ∷ []
+
+-- the book after a list of posts
+abbrev book : List (List ℕ) → List ℕ
+book rs = posted three_groups (open_book three_groups (table (per_firm_group * 3) (λ i. 9))) rs
+
+-- the reason for a day and group of ABC after a list, with grants
+abbrev told : List (List ℕ) → (day : ℕ) → (code G : List ℕ) → Outcome Said
+told rs day code G = reason_answer three_groups (book rs) ABC day code G
+
+-- a mark with its values
+abbrev marked : (mark : ℕ) → (values : List ℕ) → Outcome Said
+marked mark values = good (record { mark = mark; values = values })
+
+-- a severe day of the lowest tier, 3,000,000 against 6 × 1,000 × 3 × 100, and one of the highest, the ninth marked day
+abbrev severe_days : List (List ℕ)
+severe_days = orders 69 83 3 0 30000 0 100 ∷ ninth 69 83 4 ∷ []
+
+-- failing days of ZC and ES on day 1, and of ES on day 3
+abbrev two_at_once : List (List ℕ)
+two_at_once = fifth 90 67 1 10000 ∷ fifth 69 83 1 10000 ∷ fifth 69 83 3 10000 ∷ []
+
+-- what is answered of a firm, day and group after no posts
+abbrev refusing : (C : List ℕ) → (day : ℕ) → (code G : List ℕ) → Outcome Said
+refusing C day code G = reason_answer three_groups (book []) C day code G
+
+pub record Example : Type 0 where
+  pub automatic : told many_marks 1 ES [] ≡ marked 4 (1 ∷ [])
+  pub second : told many_marks 3 ES [] ≡ marked 4 (2 ∷ [])
+  -- numbers are each grouping's own
+  pub other_grouping : told many_marks 1 CL [] ≡ marked 4 (1 ∷ [])
+  pub billed : told many_marks 4 ES [] ≡ marked 2 (386001 ∷ 429003 ∷ 30000 ∷ 4 ∷ (1 ∷ ES) ++ (3 ∷ ES))
+  pub severe : told many_marks 5 ES [] ≡ marked 1 (300 ∷ 0 ∷ [])
+  -- the sums are of ZC's own days
+  pub monthly : told many_marks 1 ZC [] ≡ marked 3 (122001 ∷ 143000 ∷ 1010000 ∷ 2 ∷ [])
+  -- a failing cell on a day not in effect, and a day without messages
+  pub closed : told many_marks 2 ES [] ≡ marked 0 []
+  pub silent : told many_marks 9 ES [] ≡ marked 0 []
+  -- a granted severe day answers granted, and so does a billed one; an automatic one stays, and keeps its number
+  pub granted_severe : told many_marks 5 ES (grant ABC 5 69 83) ≡ marked 5 []
+  pub granted_billed : told many_marks 4 ES (grant ABC 4 69 83) ≡ marked 5 []
+  pub granted_automatic : told many_marks 3 ES (grant ABC 3 69 83 ++ grant ABC 4 69 83) ≡ marked 4 (2 ∷ [])
+  pub lowest_tier : told severe_days 3 ES [] ≡ marked 1 (3000000 ∷ 1800000 ∷ [])
+  pub highest_tier : told severe_days 4 ES [] ≡ marked 1 (6000100 ∷ 6000000 ∷ [])
+  -- of one day, the group that stands first in the schedule comes first
+  pub same_day : told two_at_once 3 ES [] ≡ marked 2 (244000 ∷ 286000 ∷ 20000 ∷ 2 ∷ (1 ∷ ES) ++ (1 ∷ ZC))
+  -- 15, also of codes of another length; 16, on day 0 and past the month
+  pub unknown_group : refusing ABC 1 XX [] ≡ refused 15 0
+  pub short_code : refusing ABC 1 (69 ∷ []) [] ≡ refused 15 0
+  pub long_code : refusing ABC 1 (69 ∷ 83 ∷ 69 ∷ []) [] ≡ refused 15 0
+  pub day_0 : refusing ABC 0 ES [] ≡ refused 16 0
+  pub day_32 : refusing ABC 32 ES [] ≡ refused 16 0
+  -- 8 before 15, 15 before 16, 16 before 21, 21 before 34 and 35
+  pub short_book : reason_answer three_groups [] ABC 1 XX [] ≡ refused 8 0
+  pub both_unknown : refusing ABC 0 XX [] ≡ refused 15 0
+  pub day_first : refusing ZZZ 0 ES [] ≡ refused 16 0
+  pub firm_first : refusing ZZZ 1 ES (take 9 (grant ABC 1 69 83)) ≡ refused 21 0
+  pub cut_grant : refusing ABC 1 ES (take 9 (grant ABC 1 69 83)) ≡ refused 34 0
+  pub no_such_cell : refusing ABC 1 ES (grant ABC 1 88 88) ≡ refused 35 0
+
+pub example : Example
+unfolding posted taking totals_of correction_fields check_book check_of scan ending with_record cause is_repeated fields_ok is_full length_ok is_due kind_of
+    firm_listed group_listed firm_is group_is group_start firm_ok firm_fields has_code group_in_range group_fields contracts_ok contract_bad before contract
+    listed head_ok head_fields is_letter contract_is is_counted is_after in_front contract_counted contract_listed days_in sum joined seek_in last_below all
+    choose u32_at u16_at verdict any_excess month_answer granted_answer values_at reason_answer
+example =
+    record {
+      automatic = refl;
+      second = refl;
+      other_grouping = refl;
+      billed = refl;
+      severe = refl;
+      monthly = refl;
+      closed = refl;
+      silent = refl;
+      granted_severe = refl;
+      granted_billed = refl;
+      granted_automatic = refl;
+      lowest_tier = refl;
+      highest_tier = refl;
+      same_day = refl;
+      unknown_group = refl;
+      short_code = refl;
+      long_code = refl;
+      day_0 = refl;
+      day_32 = refl;
+      short_book = refl;
+      both_unknown = refl;
+      day_first = refl;
+      firm_first = refl;
+      cut_grant = refl;
+      no_such_cell = refl;
+    }
