@@ -1,6 +1,9 @@
 // The lines of the answers.
 use book::Effect;
+use month::MonthSums;
+use reason::{Explanation, Waiver};
 use refusals::Refusal;
+use rules::Sides;
 use script::{digest_of, put_hex};
 use statement::LARGEST;
 use std::io;
@@ -34,6 +37,56 @@ pub(crate) fn print_stated(rt: &impl Print, answer: Result<usize, Refusal>, out:
         Ok(bytes) => say(print!(rt; "written {bytes} ")),
     }
     say(rt.write_all(&text[..digits]));
+    say(println!(rt; ""));
+}
+
+// The word of a reason, and R, S, V and d behind it.
+fn print_sums(rt: &impl Print, word: &str, sums: MonthSums) {
+    let MonthSums {
+        raw,
+        score,
+        lots,
+        days,
+    } = sums;
+    say(print!(rt; "reason {word} {raw} {score} {lots} {days}"));
+}
+
+// The code stands in hexadecimal digits, since it is two zeros where there is no waiver.
+fn print_waiver(rt: &impl Print, waiver: Waiver) {
+    let mut text = [0; 4];
+    let digits = put_hex(&waiver.code, &mut text);
+    let day = waiver.day;
+    say(print!(rt; " {day} "));
+    say(rt.write_all(&text[..digits]));
+}
+
+fn print_explanation(rt: &impl Print, explanation: Explanation) {
+    match explanation {
+        Explanation::NotAViolation => say(print!(rt; "reason not-a-violation")),
+        Explanation::Severe(Sides { scored, allowed }) => {
+            say(print!(rt; "reason severe {scored} {allowed}"));
+        }
+        Explanation::Monthly(sums) => print_sums(rt, "monthly", sums),
+        Explanation::Automatic { number } => say(print!(rt; "reason automatic {number}")),
+        Explanation::Granted => say(print!(rt; "reason granted")),
+        Explanation::Billed {
+            sums,
+            first,
+            second,
+        } => {
+            print_sums(rt, "billed", sums);
+            print_waiver(rt, first);
+            print_waiver(rt, second);
+        }
+    }
+}
+
+// What a reason answered.
+pub(crate) fn print_reason(rt: &impl Print, answer: Result<Explanation, Refusal>) {
+    match answer {
+        Err(refusal) => say(print!(rt; "{refusal}")),
+        Ok(explanation) => print_explanation(rt, explanation),
+    }
     say(println!(rt; ""));
 }
 

@@ -10,9 +10,7 @@ use script::Script;
 #[derive(Clone, Copy, Debug, PartialEq, Eq)]
 pub(crate) enum Command<'a> {
     // S: the schedule of the calls that follow.
-    Schedule {
-        bytes: &'a [u8],
-    },
+    Schedule(&'a [u8]),
     // B: a new book of so many numbers.
     Book {
         numbers: usize,
@@ -25,17 +23,19 @@ pub(crate) enum Command<'a> {
     // O: opens the book.
     Open,
     // P: posts a record.
-    Post {
-        record: &'a [u8],
-    },
+    Post(&'a [u8]),
     // T: the statement of a firm, into an output of so many bytes.
     Statement {
         firm: &'a [u8],
         size: usize,
     },
-    // G: the grants of the statements that follow.
-    Grants {
-        bytes: &'a [u8],
+    // G: the grants of the statements and reasons that follow.
+    Grants(&'a [u8]),
+    // R: the reason for a firm's day in a group.
+    Reason {
+        firm: &'a [u8],
+        day: u8,
+        group: &'a [u8],
     },
     // V: the verdict on a day's raw count, score, lots and benchmark.
     Verdict {
@@ -54,9 +54,7 @@ fn read_command<'a>(script: &mut Script<'a>) -> Result<Command<'a>, Stop>
     ensures on { past_in script.old.bytes.now script.old.at 1 ≤ script.new.at }
 {
     let command = match script.byte() {
-        b'S' => Command::Schedule {
-            bytes: script.piece(),
-        },
+        b'S' => Command::Schedule(script.piece()),
         b'B' => Command::Book {
             numbers: script.u32() as usize,
         },
@@ -65,15 +63,16 @@ fn read_command<'a>(script: &mut Script<'a>) -> Result<Command<'a>, Stop>
             number: script.u64(),
         },
         b'O' => Command::Open,
-        b'P' => Command::Post {
-            record: script.piece(),
-        },
+        b'P' => Command::Post(script.piece()),
         b'T' => Command::Statement {
             firm: script.piece(),
             size: script.u32() as usize,
         },
-        b'G' => Command::Grants {
-            bytes: script.piece(),
+        b'G' => Command::Grants(script.piece()),
+        b'R' => Command::Reason {
+            firm: script.piece(),
+            day: script.byte(),
+            group: script.piece(),
         },
         b'V' => Command::Verdict {
             raw: script.u64(),

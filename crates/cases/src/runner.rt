@@ -1,8 +1,11 @@
 // What the commands of a script do.
-use crate::answers::{effect_word, print_answer, print_digest, print_stated, print_verdict};
+use crate::answers::{
+    effect_word, print_answer, print_digest, print_reason, print_stated, print_verdict,
+};
 use crate::commands::Command;
 use crate::stop::Stop;
 use book::{open, post};
+use reason::reason;
 use rules::mep_verdict;
 use statement::{LARGEST, statement};
 
@@ -61,23 +64,32 @@ impl<'s, 'b> Runner<'s, 'b> {
         Ok(())
     }
 
+    fn print_reason(&mut self, rt: &impl Print, firm: &[u8], day: u8, group: &[u8]) {
+        let grants = self.grants;
+        print_reason(
+            rt,
+            reason(self.schedule, self.held(), firm, day, group, grants),
+        );
+    }
+
     // Runs a command, and prints what the call that it makes answers.
     pub(crate) fn run(&mut self, rt: &impl Print, command: Command<'s>) -> Result<(), Stop> {
         match command {
-            Command::Schedule { bytes } => self.schedule = bytes,
+            Command::Schedule(bytes) => self.schedule = bytes,
             Command::Book { numbers } => self.make_book(numbers)?,
             Command::Write { place, number } => self.write(place, number)?,
             Command::Open => {
                 print_answer(rt, open(self.schedule, self.held()).map(|()| "opened"));
             }
-            Command::Post { record } => {
+            Command::Post(record) => {
                 print_answer(
                     rt,
                     post(self.schedule, self.held(), record).map(effect_word),
                 );
             }
-            Command::Grants { bytes } => self.grants = bytes,
+            Command::Grants(bytes) => self.grants = bytes,
             Command::Statement { firm, size } => self.print_statement(rt, firm, size)?,
+            Command::Reason { firm, day, group } => self.print_reason(rt, firm, day, group),
             Command::Verdict {
                 raw,
                 score,
