@@ -291,8 +291,21 @@ def grants_of(r, month):
     return b"".join(named)
 
 
+def reason_cells(r, month):
+    """Firm, day and group of reasons: many that records name, one of each firm, and some that are no cell's."""
+    last = days_in(month.number)
+    named = sorted({(record[4:7], record[7], record[8:10]) for record in month.activity if len(record) >= 10})
+    more = [(code, r.randint(1, last), r.choice(month.groups).code) for code in month.firms]
+    code, day, name = more[0]
+    odd = [(other, day, name) for other in (b"abc", b"", code[:2], code + b"A", name)]
+    odd += [(code, other, name) for other in (0, last + 1, 32, 255)]
+    odd += [(code, day, other) for other in (b"es", b"", name[:1], name + b"A", code)]
+    odd += [(code, 0, b"es"), (b"abc", day, b"es"), (b"abc", 0, name)]
+    return r.sample(named, min(len(named), 60)) + more + r.sample(odd, 4)
+
+
 def month_calls(r):
-    """One month as calls: open, posts, statements with grants or none into outputs of many sizes; then verdicts."""
+    """One month as calls: open, posts, statements into outputs of many sizes and reasons, with grants or none; then verdicts."""
     month = dense_month(r) if r.random() < .05 else whole_month(r, r.choice((1_000, 5_000, 12_000)))
     if r.random() < .2:
         put_in(r, month.activity, full_cell(r, month))
@@ -312,6 +325,8 @@ def month_calls(r):
         script.grants(r.choice((b"", grants_of(r, month), grants_of(r, month))))
         for room in (r.randrange(output_need(40)), output_need(r.randrange(30)) - r.randint(0, 1), output_need(992)):
             script.statement(r.choice((code,) * 9 + (code[:2], code + b"A", b"", b"abc")), room)
+        for cell in reason_cells(r, month):
+            script.reason(*cell)
     for _ in range(20):
         script.verdict(*verdict_numbers(r))
     return script.bytes
