@@ -48,7 +48,7 @@ module _ (S : List ℕ) (l : Layout) where
   abbrev pub group_found_at : (g : ℕ) → GroupPlace
   group_found_at g = record { index = g; offset = group_start S l.first g }
 
-  -- what a search for a group's code finds; each caller gives "unlisted" its own number: 15 for a record's group, 35 for a grant's
+  -- what a search for a group's code finds; each caller gives "unlisted" its own number: 15 for a record's group and a reason's, 35 for a grant's
   unfoldable pub group_found : (C : List ℕ) → Option GroupPlace
   group_found C = cond (group_listed C) (Some (group_found_at (group_place C))) None
 
@@ -60,6 +60,6 @@ module _ (S : List ℕ) (l : Layout) where
   abbrev pub firm_place : (C : List ℕ) → ℕ
   firm_place C = seek 0 l.firms (firm_is S l.start C)
 
-  -- what a search for a firm's code finds; "unlisted" is 14 for a record's firm, 21 for a statement's, 35 for a grant's
+  -- what a search for a firm's code finds; "unlisted" is 14 for a record's firm, 21 for a statement's and a reason's, 35 for a grant's
   unfoldable pub firm_found : (C : List ℕ) → Option ℕ
   firm_found C = cond (firm_listed C) (Some (firm_place C)) None

@@ -21,7 +21,8 @@ use marks::{codes_of, give_marks};
 use refusals::{Cause, Refusal};
 use rules::{GROUPS, PLACES, Verdict};
 
-// A group in a firm's month: where it stands in the schedule, its exchange grouping, the sums over its counted days, and whether it is exempt.
+// A group in a firm's month: where it stands in the schedule, its exchange grouping, its sums over the counted days, and whether it is
+// exempt.
 #[derive(Clone, Copy, Debug, PartialEq, Eq)]
 pub struct GroupMonth {
     pub start: usize,
@@ -30,7 +31,8 @@ pub struct GroupMonth {
     pub exempt: bool,
 }
 
-// What the schedule holds; the firm's place among its firms; its groups; of each place (day by day, in each day group by group) the verdict and the mark.
+// What the schedule holds; the firm's place among its firms; its groups; of each place (day by day, in each day group by group) the verdict
+// and the mark.
 #[derive(Clone, Copy, Debug, PartialEq, Eq)]
 pub struct Month {
     pub layout: Layout,

@@ -31,14 +31,15 @@ pub enum Cause {
     WrongKind,
     // Its length field or the slice is not its kind's.
     WrongSize,
-    // The schedule doesn't list its firm or its group, its month has no such day, or its group doesn't list its contract.
+    // The schedule doesn't list its firm or its group, its month has no such day, or its group doesn't list its contract. Of a reason: its
+    // group, or its day.
     UnlistedFirm,
     UnlistedGroup,
     NoSuchDay,
     UnlistedContract,
     // A total of its cell would be above the limit.
     AboveLimit,
-    // The statement's firm is unlisted.
+    // The statement's firm, or the reason's, is unlisted.
     NoSuchFirm,
     // A number of that firm is above the limit.
     Excess,
