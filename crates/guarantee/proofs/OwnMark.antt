@@ -1,30 +1,36 @@
 -- A statement that is written shows the month that the reason is of. Line k is that of the violation before which k stand, and tells its place: its day, and
--- its group by the code, since no code is repeated. So a line for the day and group is that of their place, and has its mark.
-use Prim.Native.Nat.{ℕ, ◌+◌, ◌*◌, ◌<◌}
-use mathlib.Core.Bool.{Bool, true, false, cond, not, false≢true, not-not}
-use mathlib.Core.List.{List, [], ◌∷◌}
+-- its group by the code, since no code is repeated. So a line for the day and group is that of their place, and has its mark; and a group or day that the
+-- schedule doesn't know has no line.
+use Prim.Native.Nat.{ℕ, ◌+◌, ◌-◌, ◌*◌, ◌/◌, ◌%◌, ◌≤◌, ◌<◌}
+use mathlib.Core.Bool.{Bool, true, false, cond, not, ◌&&◌, false≢true, not-not}
+use mathlib.Core.List.{List, [], ◌∷◌, ◌++◌}
 use mathlib.Core.Path.{◌≡◌, refl, sym, ap, ap₂, subst, ◌∙◌}
 use native.Mathlib.Omega.{arith}
 use lib.Dec.{eqb, ltb}
 use lib.ListN.{length, get_or, drop}
-use borrow.Author.Tests.{eqb-true, eq-eqb, ltb-true, not-false}
-use Rattle.std.specs.Cmp.{first_so}
-use Rattle.wire.specs.Choose.{all, some}
+use borrow.Author.Tests.{eqb-true, eq-eqb, ltb-true, ltb-false, not-false}
+use Rattle.std.specs.Str.{bytes_eq}
+use Rattle.std.specs.Cmp.{first_so, second_so}
+use Rattle.std.proofs.lemmas.Slice.Eq.{bytes_eq-Decides}
+use Rattle.wire.specs.Choose.{choose, some, within}
 use Rattle.wire.specs.Lists.{over}
 use Rattle.wire.specs.Sums.{count}
 use Rattle.wire.proofs.Bools.{never}
-use Rattle.wire.proofs.Choose.{each, some_at, none_some}
-use Rattle.wire.proofs.Counts.{Numbered, numbered, count_before}
+use Rattle.wire.proofs.Choose.{here, next, chosen, some_at, none_some, sought}
+use Rattle.wire.proofs.Counts.{Numbered, numbered, count_before, count_rises}
+use Rattle.calendar.specs.Calendar.{has_day, in_effect}
 use Rattle.rules.specs.Verdict.{version96, is_violation}
 use Rattle.rules.specs.Marks.{places, day_of, group_of, Judged, mark}
 use Rattle.rules.proofs.Marks.{mark-none}
 use Rattle.records.specs.Fields.{group_fields}
-use Rattle.refusals.specs.Outcome.{refused, good}
-use Rattle.lookup.specs.Lookup.{group_at, group_is}
+use Rattle.refusals.specs.Outcome.{Outcome, refused, good, follow}
+use Rattle.lookup.specs.Lookup.{group_at, group_is, group_listed, group_place}
+use Rattle.lookup.specs.InForce.{rules_of}
 use Rattle.lookup.specs.declared.Layout.{Layout}
 use Rattle.schedule.specs.Check.{check_of}
 use Rattle.schedule.proofs.Good.{refused-good, good-schedule}
 use Rattle.schedule.proofs.Found.{group-own}
+use Rattle.book.specs.Book.{check_book}
 use Rattle.book.proofs.Checked.{sized}
 use Rattle.grants.specs.Month.{granted_month, granted_answer}
 use Rattle.grants.proofs.Answers.{granted-book}
@@ -32,12 +38,14 @@ use Rattle.statement.specs.Layout.{line_size, both_totals, line_day, line_first,
 use Rattle.statement.specs.Lines.{first_letter, second_letter}
 use Rattle.statement.specs.Statement.{statement_bytes, need, statement_answer, statement_output}
 use Rattle.statement.proofs.Shown.{two_letters, bytes-length}
-use Rattle.reason.specs.Beside.{Said}
-use Rattle.reason.specs.Laws.{PlaceIs, IsTrue}
+use Rattle.reason.specs.Beside.{Reason}
+use Rattle.reason.specs.Reason.{unknown_causes, reason_answer}
+use Rattle.reason.specs.Laws.{PlaceIs, BilledIs, IsTrue}
 use Rattle.reason.proofs.Held.{on_place}
 use Rattle.reason.proofs.Laws.{laws}
+use Rattle.guarantee.specs.Demand3.{layout}
 use Rattle.guarantee.specs.EachLine.{LineIs}
-use Rattle.guarantee.specs.OwnMark.{lines_in, line_of, is_for, WaiverLines, Agrees, OwnMark}
+use Rattle.guarantee.specs.OwnMark.{line_code, is_for, grouping_of, lines, line, has_line, WaiverLines, Agrees, Own, OwnMark}
 use Rattle.guarantee.proofs.EachLine.{line_read}
 
 -- a statement that is written shows the month of what the schedule holds
@@ -54,148 +62,294 @@ module _ (S B C G out : List ℕ) {l : Layout} {n : ℕ} (q : granted_answer S B
   written-as : statement_answer S B C G out ≡ good n → WrittenAs S B C G out l n
   written-as e = by_room (ltb (length out) (need (granted_month S B C G l))) refl (rw q at e)
 
--- the lines of a written statement, and the place that is asked of
-module _ (S B C G out : List ℕ) {l : Layout} {n : ℕ} (q : granted_answer S B C G ≡ good l) (w : WrittenAs S B C G out l n) where
-  abbrev j : Judged
-  j = granted_month S B C G l
-
-  abbrev P' : (i : ℕ) → Bool
-  P' i = is_violation (j.verdict i).code
-
-  abbrev O : List ℕ
-  O = statement_output S B C G out
-
-  checked : check_of S ≡ good l
-  checked = (sized S (length B) (granted-book S B C G q)).schedule
-
-  lines : lines_in n ≡ count places P'
-  lines =
-      let size : n ≡ line_size * count places P' + both_totals = sym w.size ∙ bytes-length S l j in
-      omega (arith, size)
-
-  -- the line of a violation
-  read : (i : ℕ) → i < places → P' i ≡ true → LineIs version96 (line_of O (count i P')) (day_of i) (group_at S l (group_of i)) (mark version96 j i) (j.verdict i)
-  read i h v = rw w.output (line_read S l j i h v (drop (length (statement_bytes S l j)) out))
-
-  -- a violation's group is listed
-  below : (i : ℕ) → P' i ≡ true → group_of i < l.groups
-  below i v = ltb-true (group_of i) l.groups (first_so (ltb (group_of i) l.groups) _ (on_place _ _ v))
-
+-- the place of a listed group, found by its own code
+module _ (S : List ℕ) {l : Layout} (e : check_of S ≡ good l) where
   code_long : (g : ℕ) → length (group_at S l g).code ≡ 2
   unfolding group_fields
   code_long g = refl
 
-  module _ (day : ℕ) (code : List ℕ) (p : ℕ) (at : PlaceIs S l day code p) where
-    code_is : code ≡ get_or code 0 0 ∷ get_or code 1 0 ∷ []
-    code_is = two_letters code (ap length (sym at.code_is) ∙ code_long (group_of p))
+  module _ (code : List ℕ) (g : ℕ) (h : g < l.groups) (is : (group_at S l g).code ≡ code) where
+    has_code : group_is S l.first code g ≡ true
+    has_code = subst (λ (D : List ℕ). group_is S l.first D g ≡ true) is (group-own S e g h)
 
-    -- a line for the day and group is that of their place
-    its_place : (i : ℕ) → i < places → P' i ≡ true → is_for day code (line_of O (count i P')) ≡ true → i ≡ p
-    its_place i h v t =
-        let r = read i h v in
-        let f = each _ t in
-        let days : day_of i ≡ day_of p = sym r.day_is ∙ eqb-true _ _ f.0 ∙ sym at.day_is in
-        let first : first_letter (group_at S l (group_of i)) ≡ get_or code 0 0 = sym r.first ∙ eqb-true _ _ f.1.0 in
-        let second : second_letter (group_at S l (group_of i)) ≡ get_or code 1 0 = sym r.second ∙ eqb-true _ _ f.1.1.0 in
-        let same : (group_at S l (group_of i)).code ≡ code
-        = two_letters _ (code_long (group_of i)) ∙ ap₂ (λ (x y : ℕ). x ∷ y ∷ []) first second ∙ sym code_is in
-        let here : group_is S l.first code (group_of i) ≡ true
-        = subst (λ (D : List ℕ). group_is S l.first D (group_of i) ≡ true) same (group-own S checked (group_of i) (below i v)) in
-        let there : group_is S l.first code (group_of p) ≡ true
-        = subst (λ (D : List ℕ). group_is S l.first D (group_of p) ≡ true) at.code_is (group-own S checked (group_of p) at.listed) in
-        let groups : group_of i ≡ group_of p
-        = (good-schedule S checked).group_once code (group_of i) (group_of p) (below i v) at.listed here there in
-        omega (arith, days, groups)
+    is-listed : group_listed S l code ≡ true
+    unfolding group_listed
+    is-listed = some_at l.groups (group_is S l.first code) g h has_code
 
-    -- and the place's line is for them
-    own_line : P' p ≡ true → is_for day code (line_of O (count p P')) ≡ true
-    unfolding all
-    own_line v =
-        let r = read p at.inside v in
-        let d : line_day (line_of O (count p P')) ≡ day = r.day_is ∙ at.day_is in
-        let f : line_first (line_of O (count p P')) ≡ get_or code 0 0 = r.first ∙ ap (λ (D : List ℕ). get_or D 0 0) at.code_is in
-        let s : line_second (line_of O (count p P')) ≡ get_or code 1 0 = r.second ∙ ap (λ (D : List ℕ). get_or D 1 0) at.code_is in
-        rw (eq-eqb _ _ d, eq-eqb _ _ f, eq-eqb _ _ s) refl
+    is-place : group_place S l code ≡ g
+    unfolding group_listed
+    is-place =
+        let below : group_place S l code < l.groups = ltb-true _ _ is-listed in
+        (good-schedule S e).group_once code (group_place S l code) g below h
+        ((sought l.groups (group_is S l.first code)).found (omega (arith, below))) has_code
 
-    -- line k is that of a violation
-    module _ (k : ℕ) (h : k < lines_in n) (t : is_for day code (line_of O k) ≡ true) where
-      at_place : (i : ℕ) × Numbered places P' k i → (P' p ≡ true) × (line_mark (line_of O k) ≡ mark version96 j p)
-      at_place (i, m) =
-          let t' : is_for day code (line_of O (count i P')) ≡ true = rw m.number t in
-          let same = its_place i m.inside m.holds t' in
-          (rw (← same) m.holds, rw (← m.number, ← same) (read i m.inside m.holds).mark_is)
+    grouping-is : grouping_of S code ≡ (group_at S l g).grouping
+    grouping-is =
+        let held : layout S ≡ l = rw e refl in
+        ap (λ (x : Layout). (group_at S x (group_place S x code)).grouping) held ∙ ap (λ (k : ℕ). (group_at S l k).grouping) is-place
 
-      line-there : (P' p ≡ true) × (line_mark (line_of O k) ≡ mark version96 j p)
-      line-there = at_place (numbered places P' k (rw lines at h))
+-- the lines of a written statement
+module _ (S B C G out : List ℕ) {l : Layout} {n : ℕ} (q : granted_answer S B C G ≡ good l) (w : WrittenAs S B C G out l n) where
+  abbrev j : Judged
+  j = granted_month S B C G l
 
-    has_line : some (lines_in n) (λ k. is_for day code (line_of O k)) ≡ P' p
-    has_line = go (P' p) refl
-      where
-        go : (b : Bool) → P' p ≡ b → some (lines_in n) (λ k. is_for day code (line_of O k)) ≡ b
-        go true v =
-            some_at (lines_in n) (λ k. is_for day code (line_of O k)) (count p P') (rw lines (count_before places P' p at.inside v)) (own_line v)
-        go false v =
-            none_some (lines_in n) (λ k. is_for day code (line_of O k)) (λ k h. never _ (λ t. false≢true (sym v ∙ (line-there k h t).0)))
-
--- what is said agrees with it
-module _ (S B C G out : List ℕ) (day : ℕ) (code : List ℕ) {n : ℕ} {s : Said} (e : statement_answer S B C G out ≡ good n) (said : IsTrue S B C day code G s) where
-  abbrev J : Judged
-  J = granted_month S B C G said.l
-
-  written : WrittenAs S B C G out said.l n
-  written = written-as S B C G out said.holds e
+  abbrev fails : (i : ℕ) → Bool
+  fails i = is_violation (j.verdict i).code
 
   abbrev number : (i : ℕ) → ℕ
-  number i = count i (λ k. is_violation (J.verdict k).code)
+  number i = count i fails
 
-  abbrev line_at : (i : ℕ) → List ℕ
-  line_at i = line_of (statement_output S B C G out) (number i)
+  abbrev O : List ℕ
+  O = statement_output S B C G out
 
-  is_marked : not (eqb s.mark 0) ≡ is_violation (J.verdict said.i).code
-  is_marked = ap (λ (m : ℕ). not (eqb m 0)) said.mark_is ∙ ap not (mark-none version96 J said.i) ∙ not-not (is_violation (J.verdict said.i).code)
+  abbrev line_at : (k : ℕ) → List ℕ
+  line_at k = drop (line_size * k) O
 
-  line-is : (i : ℕ) → i < places → is_violation (J.verdict i).code ≡ true
-      → LineIs version96 (line_at i) (day_of i) (group_at S said.l (group_of i)) (mark version96 J i) (J.verdict i)
-  line-is = read S B C G out said.holds written
+  abbrev so_many : ℕ
+  so_many = (n - both_totals) / line_size
+
+  checked : check_of S ≡ good l
+  checked = (sized S (length B) (granted-book S B C G q)).schedule
+
+  lines-are : so_many ≡ number places
+  lines-are =
+      let size : n ≡ line_size * number places + both_totals = sym w.size ∙ bytes-length S l j in
+      omega (arith, size)
+
+  -- the line of a violation
+  read : (i : ℕ) → i < places → fails i ≡ true → LineIs version96 (line_at (number i)) (day_of i) (group_at S l (group_of i)) (mark version96 j i) (j.verdict i)
+  read i h v = rw w.output (line_read S l j i h v (drop (length (statement_bytes S l j)) out))
+
+  on : (i : ℕ) → fails i ≡ true → (ltb (group_of i) l.groups && in_effect l.month l.closed (day_of i)) ≡ true
+  on i v = on_place _ _ v
+
+  below : (i : ℕ) → fails i ≡ true → group_of i < l.groups
+  below i v = ltb-true (group_of i) l.groups (first_so (ltb (group_of i) l.groups) _ (on i v))
+
+  days : (i : ℕ) → fails i ≡ true → has_day l.month (day_of i) ≡ true
+  days i v = first_so (has_day l.month (day_of i)) _ (second_so (ltb (group_of i) l.groups) _ (on i v))
+
+  code-is : (i : ℕ) → i < places → fails i ≡ true → line_code (line_at (number i)) ≡ (group_at S l (group_of i)).code
+  code-is i h v =
+      let r = read i h v in
+      ap₂ (λ (x y : ℕ). x ∷ y ∷ []) r.first r.second ∙ sym (two_letters (group_at S l (group_of i)).code (code_long S checked (group_of i)))
+
+  -- its exchange grouping is that of its line's group code
+  grouping-of : (i : ℕ) → i < places → fails i ≡ true → grouping_of S (line_code (line_at (number i))) ≡ j.grouping i
+  grouping-of i h v = grouping-is S checked (line_code (line_at (number i))) (group_of i) (below i v) (sym (code-is i h v))
+
+  -- the violation whose line is line k
+  module _ (k : ℕ) (h : k < so_many) where
+    place : (i : ℕ) × Numbered places fails k i
+    place = numbered places fails k (rw lines-are at h)
+
+  module _ (day : ℕ) (code : List ℕ) where
+    -- what a line for the day and group tells of its place
+    record Tells (k : ℕ) : Type 0 where
+      i : ℕ
+      at : Numbered places fails k i
+      day_is : day_of i ≡ day
+      code_is : (group_at S l (group_of i)).code ≡ code
+
+    tells : (k : ℕ) → is_for day code (line_at k) ≡ true → (i : ℕ) × Numbered places fails k i → Tells k
+    tells k t (i, m) =
+        let t' : is_for day code (line_at (number i)) ≡ true = subst (λ (x : ℕ). is_for day code (line_at x) ≡ true) (sym m.number) t in
+        record {
+          i = i;
+          at = m;
+          day_is = sym (read i m.inside m.holds).day_is ∙ eqb-true _ _ (first_so (eqb (line_day (line_at (number i))) day) _ t');
+          code_is =
+              sym (code-is i m.inside m.holds)
+              ∙ (bytes_eq-Decides (line_code (line_at (number i))) code).0 (second_so (eqb (line_day (line_at (number i))) day) _ t');
+        }
+
+    told : (k : ℕ) → k < so_many → is_for day code (line_at k) ≡ true → Tells k
+    told k h t = tells k t (place k h)
+
+    -- a group or a day that the schedule doesn't know has no line
+    known : (k : ℕ) → Tells k → (group_listed S l code ≡ true) × (has_day l.month day ≡ true)
+    known k t = (
+      is-listed S checked code (group_of t.i) (below t.i t.at.holds) t.code_is,
+      subst (λ (d : ℕ). has_day l.month d ≡ true) t.day_is (days t.i t.at.holds),
+    )
+
+    no-line : ((group_listed S l code ≡ true) × (has_day l.month day ≡ true) → ⊥) → has_line S O n day code ≡ false
+    no-line z = none_some so_many (λ k. is_for day code (line_at k)) (λ k h. never _ (λ t. z (known k (told k h t))))
+
+    module _ (p : ℕ) (at : PlaceIs S l day code p) where
+      -- a line for the day and group is that of their place
+      its_place : (k : ℕ) (t : Tells k) → t.i ≡ p
+      its_place k t =
+          let here = is-place S checked code (group_of t.i) (below t.i t.at.holds) t.code_is in
+          let there = is-place S checked code (group_of p) at.listed at.code_is in
+          omega (arith, t.day_is, at.day_is, here, there)
+
+      -- and the place's line is for them
+      own_line : fails p ≡ true → is_for day code (line_at (number p)) ≡ true
+      own_line v =
+          let d : line_day (line_at (number p)) ≡ day = (read p at.inside v).day_is ∙ at.day_is in
+          rw (eq-eqb _ _ d) ((bytes_eq-Decides (line_code (line_at (number p))) code).1 (code-is p at.inside v ∙ at.code_is))
+
+      marked : (k : ℕ) → Tells k → line_mark (line_at k) ≡ mark version96 j p
+      marked k t =
+          let same = its_place k t in
+          rw (← t.at.number, ← same) (read t.i t.at.inside t.at.holds).mark_is
+
+      has-line : has_line S O n day code ≡ fails p
+      has-line = go (fails p) refl
+        where
+          go : (b : Bool) → fails p ≡ b → has_line S O n day code ≡ b
+          go true v =
+              some_at so_many (λ k. is_for day code (line_at k)) (number p) (rw lines-are (count_before places fails p at.inside v)) (own_line v)
+          go false v =
+              none_some so_many (λ k. is_for day code (line_at k))
+              (λ k h. never _ (λ t. let d = told k h t in false≢true (sym v ∙ subst (λ (i : ℕ). fails i ≡ true) (its_place k d) d.at.holds)))
+
+-- a reason of its month agrees with it
+module _ (S B C G out : List ℕ) (day : ℕ) (code : List ℕ) {n : ℕ} {r : Reason} (e : statement_answer S B C G out ≡ good n) (is : IsTrue S B C day code G r) where
+  abbrev J : Judged
+  J = granted_month S B C G is.l
+
+  written : WrittenAs S B C G out is.l n
+  written = written-as S B C G out is.holds e
+
+  abbrev fails_at : (i : ℕ) → Bool
+  fails_at i = is_violation (J.verdict i).code
+
+  abbrev its_number : (i : ℕ) → ℕ
+  its_number i = count i fails_at
+
+  is_marked : not (eqb r.mark 0) ≡ fails_at is.i
+  is_marked = ap (λ (m : ℕ). not (eqb m 0)) is.mark_is ∙ ap not (mark-none version96 J is.i) ∙ not-not (fails_at is.i)
 
   -- a place with a mark is a violation
-  is-violation : (i m : ℕ) → mark version96 J i ≡ m → eqb m 0 ≡ false → is_violation (J.verdict i).code ≡ true
-  is-violation i m q z =
-      not-false (is_violation (J.verdict i).code) (sym (mark-none version96 J i) ∙ ap (λ (k : ℕ). eqb k 0) q ∙ z)
+  is-violation : (i m : ℕ) → mark version96 J i ≡ m → eqb m 0 ≡ false → fails_at i ≡ true
+  is-violation i m q z = not-false (fails_at i) (sym (mark-none version96 J i) ∙ ap (λ (k : ℕ). eqb k 0) q ∙ z)
 
-  -- the two waivers
-  waiver-lines : (m : s.mark ≡ 2) → WaiverLines (statement_output S B C G out) (lines_in n) day code s.values
-  unfolding group_fields
-  waiver-lines m =
-      let b = said.billed m in
-      let h = said.place.inside in
-      let own = is-violation said.i 2 (sym said.mark_is ∙ m) refl in
-      let second = is-violation b.b 4 b.second.1 refl in
-      let first = is-violation b.a 4 b.first.1 refl in
-      let in_b : b.b < places = omega (arith, b.before, h) in
-      let in_a : b.a < places = omega (arith, b.earlier, in_b) in
-      let r = line-is b.a in_a first in
-      let t = line-is b.b in_b second in
-      record {
-        k₁ = number b.a;
-        k₂ = number b.b;
-        k = number said.i;
-        earlier = count_before b.b (λ k. is_violation (J.verdict k).code) b.a b.earlier first;
-        before = count_before said.i (λ k. is_violation (J.verdict k).code) b.b b.before second;
-        inside = rw (lines S B C G out said.holds written) (count_before places (λ k. is_violation (J.verdict k).code) said.i h own);
-        own = own_line S B C G out said.holds written day code said.i said.place own;
-        first_mark = r.mark_is ∙ b.first.1;
-        second_mark = t.mark_is ∙ b.second.1;
-        named = ap (drop 4) b.shown ∙ rw (r.day_is, r.first, r.second, t.day_is, t.first, t.second) refl;
-      }
+  module _ (m : r.mark ≡ 2) where
+    b : BilledIs S B C G is.l is.i r.values
+    b = is.billed m
 
-  agrees : Agrees (statement_output S B C G out) n day code s
+    own : fails_at is.i ≡ true
+    own = is-violation is.i 2 (sym is.mark_is ∙ m) refl
+
+    in_b : b.b < places
+    in_b = omega (arith, b.before, is.place.inside)
+
+    in_a : b.a < places
+    in_a = omega (arith, b.earlier, in_b)
+
+    first : fails_at b.a ≡ true
+    first = is-violation b.a 4 b.first.1 refl
+
+    second : fails_at b.b ≡ true
+    second = is-violation b.b 4 b.second.1 refl
+
+    -- the grouping of the group with the code
+    own-grouping : grouping_of S code ≡ J.grouping is.i
+    own-grouping = grouping-is S (checked S B C G out is.holds written) code (group_of is.i) is.place.listed is.place.code_is
+
+    grouping : (i : ℕ) → i < places → fails_at i ≡ true
+        → grouping_of S (line_code (line S (statement_output S B C G out) n day code (its_number i))) ≡ J.grouping i
+    grouping = grouping-of S B C G out is.holds written
+
+    shows : (i : ℕ) → i < places → fails_at i ≡ true
+        → LineIs version96 (line S (statement_output S B C G out) n day code (its_number i)) (day_of i) (group_at S is.l (group_of i)) (mark version96 J i) (J.verdict i)
+    shows = read S B C G out is.holds written
+
+    codes : (i : ℕ) → i < places → fails_at i ≡ true
+        → line_code (line S (statement_output S B C G out) n day code (its_number i)) ≡ (group_at S is.l (group_of i)).code
+    codes = code-is S B C G out is.holds written
+
+    -- a line names its place's day and group code
+    names : (i : ℕ) → i < places → fails_at i ≡ true
+        → line_day (line S (statement_output S B C G out) n day code (its_number i)) ∷ line_code (line S (statement_output S B C G out) n day code (its_number i))
+        ≡ day_of i ∷ (group_at S is.l (group_of i)).code
+    names i h v = ap₂ (λ (d : ℕ) (c : List ℕ). d ∷ c) (shows i h v).day_is (codes i h v)
+
+    -- a line after the first waiver's is of a place after it
+    after : (i : ℕ) → its_number b.a < its_number i → b.a < i
+    after i h = go (ltb b.a i) refl
+      where
+        go : (t : Bool) → ltb b.a i ≡ t → b.a < i
+        go true t = ltb-true b.a i t
+        go false t =
+            let le = ltb-false b.a i t in
+            let rise = count_rises i (b.a - i) fails_at in
+            let there : i + (b.a - i) ≡ b.a = omega arith in
+            absurd (omega (arith, rw there at rise, h))
+
+    other-place : (k : ℕ) → its_number b.a < k
+        → (line_mark (line S (statement_output S B C G out) n day code k) ≡ 4)
+        × (grouping_of S (line_code (line S (statement_output S B C G out) n day code k)) ≡ grouping_of S code)
+        → (i : ℕ) × Numbered places fails_at k i → k ≡ its_number b.b
+    other-place k h is4 (i, at) =
+        let there : its_number b.a < its_number i = rw at.number h in
+        let marked : mark version96 J i ≡ 4
+        = sym (shows i at.inside at.holds).mark_is ∙ ap (λ (x : ℕ). line_mark (line S (statement_output S B C G out) n day code x)) at.number ∙ is4.0 in
+        let of : J.grouping i ≡ J.grouping is.i
+        = sym (grouping i at.inside at.holds)
+        ∙ ap (λ (x : ℕ). grouping_of S (line_code (line S (statement_output S B C G out) n day code x))) at.number ∙ is4.1 ∙ own-grouping in
+        sym at.number ∙ ap its_number (b.no_other i (after i there) at.inside (of, marked))
+
+    waiver-lines : WaiverLines S (statement_output S B C G out) n day code r.values
+    unfolding group_fields
+    waiver-lines =
+        record {
+          k₁ = its_number b.a;
+          k₂ = its_number b.b;
+          k = its_number is.i;
+          named = ap (drop 4) b.shown ∙ sym (ap₂ (λ (xs ys : List ℕ). xs ++ ys) (names b.a in_a first) (names b.b in_b second));
+          first = ((shows b.a in_a first).mark_is ∙ b.first.1, grouping b.a in_a first ∙ b.first.0 ∙ sym own-grouping);
+          second = ((shows b.b in_b second).mark_is ∙ b.second.1, grouping b.b in_b second ∙ b.second.0 ∙ sym own-grouping);
+          own = own_line S B C G out is.holds written day code is.i is.place own;
+          earlier = count_before b.b fails_at b.a b.earlier first;
+          before = count_before is.i fails_at b.b b.before second;
+          inside = rw (lines-are S B C G out is.holds written) (count_before places fails_at is.i is.place.inside own);
+          no_other = λ q h l x. other-place q h x (place S B C G out is.holds written q l);
+        }
+
+  agrees : Agrees S (statement_output S B C G out) n day code r
   agrees =
       record {
-        violation = has_line S B C G out said.holds written day code said.i said.place ∙ sym is_marked;
-        own_mark = λ k h t. (line-there S B C G out said.holds written day code said.i said.place k h t).1 ∙ sym said.mark_is;
+        violation = has-line S B C G out is.holds written day code is.i is.place ∙ sym is_marked;
+        own_mark = λ k h t.
+            marked S B C G out is.holds written day code is.i is.place k (told S B C G out is.holds written day code k h t) ∙ sym is.mark_is;
         waivers = waiver-lines;
       }
 
+-- a written statement is of a month that was judged
+judged-month : (S B C G out : List ℕ) {n : ℕ} → statement_answer S B C G out ≡ good n → (l : Layout) × (granted_answer S B C G ≡ good l)
+judged-month S B C G out {n} e = go (granted_answer S B C G) refl e
+  where
+    go : (x : Outcome Layout) → granted_answer S B C G ≡ x
+        → follow x (λ l. cond (ltb (length out) (need (granted_month S B C G l))) (refused 23 0) (good (length (statement_bytes S l (granted_month S B C G l))))) ≡ good n
+        → (l : Layout) × (granted_answer S B C G ≡ good l)
+    go (refused m o) q w = absurd (refused-good w)
+    go (good l) q w = (l, q)
+
+-- what a refused reason tells, where the statement is written
+module _ (S B C G out : List ℕ) (day : ℕ) (code : List ℕ) {n : ℕ} (e : statement_answer S B C G out ≡ good n) {l : Layout} (q : granted_answer S B C G ≡ good l) where
+  abbrev asked_of : Bool → Bool → ℕ
+  asked_of x y = choose ((not x, 15) ∷ (not y, 16) ∷ []) 0
+
+  -- 15 or 16, of a group or day that is unknown
+  unknown : (x y : Bool) (r : Reason) (m o : ℕ) → cond (eqb (asked_of x y) 0) (good r) (refused (asked_of x y) 0) ≡ refused m o
+      → (within 15 16 m ≡ true) × ((x ≡ true) × (y ≡ true) → ⊥)
+  unfolding choose
+  unknown false y r m o w = let z : ◌≡◌ {A = ℕ} 15 m = cc in (rw (← z) refl, λ h. false≢true h.0)
+  unknown true false r m o w = let z : ◌≡◌ {A = ℕ} 16 m = cc in (rw (← z) refl, λ h. false≢true h.1)
+  unknown true true r m o w = absurd (refused-good (sym w))
+
+  refused-own : (m o : ℕ) → reason_answer S B C day code G ≡ refused m o → (within 15 16 m ≡ true) × (has_line S (statement_output S B C G out) n day code ≡ false)
+  unfolding reason_answer
+  refused-own m o w =
+      let u = unknown (group_listed S l code) (has_day l.month day) _ m o (rw (granted-book S B C G q, q) at w) in
+      (u.0, no-line S B C G out q (written-as S B C G out q e) day code u.1)
+
 pub own_mark : (S B C G out : List ℕ) (day : ℕ) (code : List ℕ) → OwnMark S B C G out day code
-own_mark S B C G out day code n s w r = agrees S B C G out day code w (laws S B C day code G s r)
+own_mark S B C G out day code n e = go (reason_answer S B C day code G) refl
+  where
+    go : (x : Outcome Reason) → reason_answer S B C day code G ≡ x → Own S (statement_output S B C G out) n day code x
+    go (good r) w = agrees S B C G out day code e (laws S B C day code G r w)
+    go (refused m o) w = let (l, q) = judged-month S B C G out e in refused-own S B C G out day code e q m o w

@@ -1,59 +1,75 @@
--- Beside demand 3: the reason's mark is the statement's own, in the bytes that the statement writes (document 02, 2.7). S is the schedule, B the book, C the
--- firm's code, G the grants, out the output before, `code` a group's code. Proved in proofs/OwnMark.antt: of all of them, and of every day.
+-- The reason's mark is the statement's own, in the bytes that the statement writes (document 02, 2.7): of every book, and not only of those that posts leave.
+-- S is the schedule, B the book, C the firm's code, G the grants, out the output before and out' after the statement, `code` a group's code. Proved in
+-- proofs/OwnMark.antt: of all of them, and of every day.
 -- Assumes nothing.
-use Rattle.std.specs.Prelude.{ℕ, ◌-◌, ◌*◌, ◌/◌, ◌<◌, Bool, true, not, List, [], ◌∷◌, ◌≡◌, eqb, get_or, drop}
-use Rattle.wire.specs.Choose.{all, some}
-use Rattle.refusals.specs.Outcome.{good}
+use Rattle.std.specs.Prelude.{ℕ, ◌-◌, ◌*◌, ◌/◌, ◌<◌, Bool, true, false, not, ◌&&◌, List, [], ◌∷◌, ◌++◌, ◌≡◌, eqb, drop}
+use Rattle.std.specs.Str.{bytes_eq}
+use Rattle.wire.specs.Choose.{some, within}
+use Rattle.refusals.specs.Outcome.{Outcome, refused, good}
+use Rattle.lookup.specs.Lookup.{group_at, group_place}
 use Rattle.statement.specs.Layout.{line_size, both_totals, line_day, line_first, line_second, line_mark}
 use Rattle.statement.specs.Statement.{statement_answer, statement_output}
-use Rattle.reason.specs.Beside.{Said}
+use Rattle.reason.specs.Beside.{Reason}
 use Rattle.reason.specs.Reason.{reason_answer}
+use Rattle.guarantee.specs.Demand3.{layout}
 
--- how many lines a statement of so many bytes has: two totals stand behind them
-abbrev pub lines_in : (written : ℕ) → ℕ
-lines_in written = (written - both_totals) / line_size
-
--- line k, from 0, of an output
-abbrev pub line_of : (out' : List ℕ) → (k : ℕ) → List ℕ
-line_of out' k = drop (line_size * k) out'
+-- Statement, a line: its group's code
+abbrev pub line_code : (L : List ℕ) → List ℕ
+line_code L = line_first L ∷ line_second L ∷ []
 
 -- a line is for a day and for the group with a code
 abbrev pub is_for : (day : ℕ) → (code L : List ℕ) → Bool
-is_for day code L = all (eqb (line_day L) day ∷ eqb (line_first L) (get_or code 0 0) ∷ eqb (line_second L) (get_or code 1 0) ∷ [])
+is_for day code L = eqb (line_day L) day && bytes_eq (line_code L) code
 
--- the lines k₁ and k₂ of an output are automatic ones, and the first stands before the second, the second before a line for the day and group; values end
--- with their days and group codes
-pub record WaiverLines (out' : List ℕ) (lines day : ℕ) (code values : List ℕ) : Type 0 where
-  pub k₁ : ℕ
-  pub k₂ : ℕ
-  pub k : ℕ
-  pub earlier : k₁ < k₂
-  pub before : k₂ < k
-  pub inside : k < lines
-  pub own : is_for day code (line_of out' k) ≡ true
-  pub first_mark : line_mark (line_of out' k₁) ≡ 4
-  pub second_mark : line_mark (line_of out' k₂) ≡ 4
-  -- R, S, V and d come first
-  pub named : drop 4 values
-      ≡ line_day (line_of out' k₁)
-      ∷ line_first (line_of out' k₁)
-      ∷ line_second (line_of out' k₁)
-      ∷ line_day (line_of out' k₂)
-      ∷ line_first (line_of out' k₂)
-      ∷ line_second (line_of out' k₂)
-      ∷ []
+-- Records: the exchange grouping of the group with a code
+abbrev pub grouping_of : (S code : List ℕ) → ℕ
+grouping_of S code = (group_at S (layout S) (group_place S (layout S) code)).grouping
 
--- what is said of a day and group agrees with a statement of so many bytes
-pub record Agrees (out' : List ℕ) (written day : ℕ) (code : List ℕ) (said : Said) : Type 0 where
-  -- the statement has a line for that day and group exactly when it is a violation
-  pub violation : some (lines_in written) (λ k. is_for day code (line_of out' k)) ≡ not (eqb said.mark 0)
-  -- and the line's mark is the one that is said
-  pub own_mark : (k : ℕ) → k < lines_in written → is_for day code (line_of out' k) ≡ true → line_mark (line_of out' k) ≡ said.mark
-  -- the waivers named beside a billed line are lines of the statement
-  pub waivers : said.mark ≡ 2 → WaiverLines out' (lines_in written) day code said.values
+-- of a statement of so many bytes, and of a day and a group
+module _ (S out' : List ℕ) (written day : ℕ) (code : List ℕ) where
+  -- Statement: the lines stand before two totals
+  abbrev pub lines : ℕ
+  lines = (written - both_totals) / line_size
 
--- so it is wherever the statement is written and the reason is answered
+  -- Statement: each line into the output after the last; line k, from 0
+  abbrev pub line : (k : ℕ) → List ℕ
+  line k = drop (line_size * k) out'
+
+  -- a line is for the day and group
+  abbrev pub has_line : Bool
+  has_line = some lines (λ k. is_for day code (line k))
+
+  -- line k is an automatic one of the group's exchange grouping
+  abbrev pub is_waiver : (k : ℕ) → Type 0
+  is_waiver k = (line_mark (line k) ≡ 4) × (grouping_of S (line_code (line k)) ≡ grouping_of S code)
+
+  -- 2.7, billed: the values end, after R, S, V and d, with the days and group codes of two lines of the statement, k₁ and k₂. They have mark 4 in that
+  -- grouping, the earlier first, stand before the day's own line, and no other automatic line of the grouping stands after the earlier of them
+  pub record WaiverLines (values : List ℕ) : Type 0 where
+    pub k₁ : ℕ
+    pub k₂ : ℕ
+    pub k : ℕ
+    pub named : drop 4 values ≡ (line_day (line k₁) ∷ line_code (line k₁)) ++ (line_day (line k₂) ∷ line_code (line k₂))
+    pub first : is_waiver k₁
+    pub second : is_waiver k₂
+    pub own : is_for day code (line k) ≡ true
+    pub earlier : k₁ < k₂
+    pub before : k₂ < k
+    pub inside : k < lines
+    pub no_other : (q : ℕ) → k₁ < q → q < lines → is_waiver q → q ≡ k₂
+
+  -- 2.7: the statement has a line for that day and group exactly when the reason is a violation, and that line's mark is the reason's
+  pub record Agrees (r : Reason) : Type 0 where
+    pub violation : has_line ≡ not (eqb r.mark 0)
+    pub own_mark : (k : ℕ) → k < lines → is_for day code (line k) ≡ true → line_mark (line k) ≡ r.mark
+    pub waivers : r.mark ≡ 2 → WaiverLines r.values
+
+  -- 2.7: so it is with a reason; and what is refused is 15 or 16, a group or day that no line is for
+  abbrev pub Own : Outcome Reason → Type 0
+  Own (good r) = Agrees r
+  Own (refused n o) = (within 15 16 n ≡ true) × (has_line ≡ false)
+
+-- 2.7: its mark is the statement's own, wherever the statement is written
 abbrev pub OwnMark : (S B C G out : List ℕ) → (day : ℕ) → (code : List ℕ) → Type 0
 OwnMark S B C G out day code =
-    (written : ℕ) (said : Said) → statement_answer S B C G out ≡ good written → reason_answer S B C day code G ≡ good said
-    → Agrees (statement_output S B C G out) written day code said
+    (written : ℕ) → statement_answer S B C G out ≡ good written → Own S (statement_output S B C G out) written day code (reason_answer S B C day code G)

@@ -23,24 +23,24 @@ use Rattle.book.specs.Book.{check_book}
 use Rattle.book.proofs.Checked.{sized}
 use Rattle.grants.specs.Month.{granted_answer}
 use Rattle.grants.proofs.Answers.{granted-book}
-use Rattle.reason.specs.Beside.{Said}
-use Rattle.reason.specs.Reason.{said_at, place_of, unknown_causes, reason_answer}
+use Rattle.reason.specs.Beside.{Reason}
+use Rattle.reason.specs.Reason.{reason_at, place_of, unknown_causes, reason_answer}
 use Rattle.reason.specs.Laws.{PlaceIs}
 
 -- what an answer that is no refusal tells
-pub record Answered (S B C : List ℕ) (day : ℕ) (code G : List ℕ) (s : Said) : Type 0 where
+pub record Answered (S B C : List ℕ) (day : ℕ) (code G : List ℕ) (s : Reason) : Type 0 where
   pub l : Layout
   pub checked : check_book S (length B) ≡ good l
   pub holds : granted_answer S B C G ≡ good l
   pub listed : group_listed S l code ≡ true
   pub known : has_day l.month day ≡ true
-  pub is : s ≡ said_at S B C G l (place_of S day code l)
+  pub is : s ≡ reason_at S B C G l (place_of S day code l)
 
 -- what the call comes to after 15 and 16
-abbrev rest : (S B C : List ℕ) (day : ℕ) (code G : List ℕ) → Outcome Layout → Outcome Said
-rest S B C day code G x = follow x (λ l. good (said_at S B C G l (place_of S day code l)))
+abbrev rest : (S B C : List ℕ) (day : ℕ) (code G : List ℕ) → Outcome Layout → Outcome Reason
+rest S B C day code G x = follow x (λ l. good (reason_at S B C G l (place_of S day code l)))
 
-module _ (S B C : List ℕ) (day : ℕ) (code G : List ℕ) {s : Said} where
+module _ (S B C : List ℕ) (day : ℕ) (code G : List ℕ) {s : Reason} where
   month_taken : {l : Layout} → check_book S (length B) ≡ good l → choose (unknown_causes S day code l) 0 ≡ 0
       → (x : Outcome Layout) → granted_answer S B C G ≡ x → rest S B C day code G x ≡ good s → Answered S B C day code G s
   month_taken e z (refused n o) m q = absurd (refused-good q)
@@ -48,7 +48,7 @@ module _ (S B C : List ℕ) (day : ℕ) (code G : List ℕ) {s : Said} where
       let p = passed (unknown_causes S day code l) refl z in
       let checked : good k ≡ good l = sym (granted-book S B C G m) ∙ e in
       let same : k ≡ l = cc in
-      let is : said_at S B C G k (place_of S day code k) ≡ s = cc in
+      let is : reason_at S B C G k (place_of S day code k) ≡ s = cc in
       record {
         l = l;
         checked = e;
@@ -73,7 +73,7 @@ module _ (S B C : List ℕ) (day : ℕ) (code G : List ℕ) {s : Said} where
   answered e = by_check (check_book S (length B)) refl e
 
 -- its place
-module _ (S B C : List ℕ) (day : ℕ) (code G : List ℕ) {s : Said} (a : Answered S B C day code G s) where
+module _ (S B C : List ℕ) (day : ℕ) (code G : List ℕ) {s : Reason} (a : Answered S B C day code G s) where
   pub found : group_place S a.l code < a.l.groups
   unfolding group_listed
   found = ltb-true _ _ a.listed

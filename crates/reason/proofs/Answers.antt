@@ -1,4 +1,4 @@
--- What the call comes to: the first of 1 to 8, 15 and 16; then the refusal of the month, or what is said of its place.
+-- What the call comes to: the first of 1 to 8, 15 and 16; then the refusal of the month, or the reason for its place.
 use Prim.Native.Nat.{ℕ, ◌+◌, ◌-◌, ◌*◌, ◌<◌}
 use mathlib.Core.Bool.{true, false, not}
 use mathlib.Core.List.{List}
@@ -19,8 +19,8 @@ use Rattle.book.specs.Book.{check_book}
 use Rattle.book.proofs.Checked.{sized}
 use Rattle.grants.specs.Month.{granted_answer}
 use Rattle.grants.proofs.Answers.{granted-book}
-use Rattle.reason.specs.Beside.{Said}
-use Rattle.reason.specs.Reason.{said_at, place_of, unknown_causes, reason_answer}
+use Rattle.reason.specs.Beside.{Reason}
+use Rattle.reason.specs.Reason.{reason_at, place_of, unknown_causes, reason_answer}
 
 -- a day of the month and a listed group have a place
 pub inside : (S : List ℕ) (numbers : ℕ) {l : Layout} → check_book S numbers ≡ good l → (day g : ℕ) → g < l.groups → has_day l.month day ≡ true
@@ -60,12 +60,12 @@ module _ (S B C : List ℕ) (day : ℕ) (code G : List ℕ) where
         unfolding reason_answer
         is-month m = rw (e, none_unknown, m)
 
-        is-good : {k : Layout} → granted_answer S B C G ≡ good k → reason_answer S B C day code G ≡ good (said_at S B C G k (place_of S day code k))
+        is-good : {k : Layout} → granted_answer S B C G ≡ good k → reason_answer S B C day code G ≡ good (reason_at S B C G k (place_of S day code k))
         unfolding reason_answer
         is-good m = rw (e, none_unknown, m)
 
-        pub is-said : {k : Layout} {s : Said} → granted_answer S B C G ≡ good k → s ≡ said_at S B C G k (place_of S day code l) → reason_answer S B C day code G ≡ good s
-        is-said {k} m q =
+        pub is-reason : {k : Layout} {s : Reason} → granted_answer S B C G ≡ good k → s ≡ reason_at S B C G k (place_of S day code l) → reason_answer S B C day code G ≡ good s
+        is-reason {k} m q =
             let checked : good k ≡ good l = sym (granted-book S B C G m) ∙ e in
             let same : k ≡ l = cc in
-            is-good m ∙ sym (ap good (q ∙ ap (λ (x : Layout). said_at S B C G k (place_of S day code x)) (sym same)))
+            is-good m ∙ sym (ap good (q ∙ ap (λ (x : Layout). reason_at S B C G k (place_of S day code x)) (sym same)))

@@ -39,12 +39,12 @@ use Rattle.month.proofs.Held.{held-mark, held-group, held-fields}
 use Rattle.grants.specs.Grants.{named}
 use Rattle.grants.specs.Month.{granted_month, granted_answer, GrantedIs}
 use Rattle.grants.proofs.Answers.{granted-judged}
-use Rattle.reason.specs.Reason.{sides_at, said_at}
-use Rattle.reason.specs.Parts.{sides_or, held_sides, held_said}
-use Rattle.reason.specs.Beside.{sides_shown, sums_shown, waiver_shown, with_before, two_up_to, last_two, is_automatic, number_at, waivers_in, waiver_at, said}
+use Rattle.reason.specs.Reason.{sides_at, reason_at}
+use Rattle.reason.specs.Parts.{sides_or, held_sides, held_reason}
+use Rattle.reason.specs.Beside.{sides_shown, sums_shown, waiver_shown, with_before, two_up_to, last_two, is_automatic, number_at, waivers_in, waiver_at, reason_by}
 use Rattle.reason.specs.declared.waivers.LastTwo.{LastTwo}
 use Rattle.reason.proofs.Marks.{Mark, none, severe, billed, monthly, automatic, granted, most_5, mark_is}
-use Rattle.reason.proofs.Said.{no-violation, severe-said, billed-said, monthly-said, automatic-said, granted-said, first_inside, second_inside}
+use Rattle.reason.proofs.ByMark.{no-violation, severe-reason, billed-reason, monthly-reason, automatic-reason, granted-reason, first_inside, second_inside}
 
 -- tests that agree on the first n places have the same last two
 module _ (p q : ℕ → Bool) where
@@ -84,22 +84,22 @@ module _ (groups groups' : (g : ℕ) → Group) (sums sums' : (g : ℕ) → Mont
     second : waiver_at groups two.second ≡ waiver_at groups' two.second
     second = waiver_same two.second (second_inside _ places)
 
-    by_mark : {n : ℕ} → Mark n → marks i ≡ n → marks' i ≡ n → said groups sums sides grouping marks i ≡ said groups' sums' sides' grouping' marks' i
+    by_mark : {n : ℕ} → Mark n → marks i ≡ n → marks' i ≡ n → reason_by groups sums sides grouping marks i ≡ reason_by groups' sums' sides' grouping' marks' i
     by_mark none a b = no-violation _ _ _ _ _ i a ∙ sym (no-violation _ _ _ _ _ i b)
     by_mark severe a b =
-        severe-said _ _ _ _ _ i a ∙ ap (λ (x : Sides). record { mark = 1; values = sides_shown x }) (c b) ∙ sym (severe-said _ _ _ _ _ i b)
+        severe-reason _ _ _ _ _ i a ∙ ap (λ (x : Sides). record { mark = 1; values = sides_shown x }) (c b) ∙ sym (severe-reason _ _ _ _ _ i b)
     by_mark billed a b =
-        billed-said _ _ _ _ _ i a (sym twos) (sym first) (sym second)
+        billed-reason _ _ _ _ _ i a (sym twos) (sym first) (sym second)
         ∙ ap (λ (x : MonthSums). record { mark = 2; values = sums_shown x ++ waiver_shown (waiver_at groups' two.first) ++ waiver_shown (waiver_at groups' two.second) }) s
-        ∙ sym (billed-said _ _ _ _ _ i b refl refl refl)
+        ∙ sym (billed-reason _ _ _ _ _ i b refl refl refl)
     by_mark monthly a b =
-        monthly-said _ _ _ _ _ i a ∙ ap (λ (x : MonthSums). record { mark = 3; values = sums_shown x }) s ∙ sym (monthly-said _ _ _ _ _ i b)
+        monthly-reason _ _ _ _ _ i a ∙ ap (λ (x : MonthSums). record { mark = 3; values = sums_shown x }) s ∙ sym (monthly-reason _ _ _ _ _ i b)
     by_mark automatic a b =
-        automatic-said _ _ _ _ _ i a ∙ ap (λ (n : ℕ). record { mark = 4; values = n ∷ [] }) number_same ∙ sym (automatic-said _ _ _ _ _ i b)
-    by_mark granted a b = granted-said _ _ _ _ _ i a ∙ sym (granted-said _ _ _ _ _ i b)
+        automatic-reason _ _ _ _ _ i a ∙ ap (λ (n : ℕ). record { mark = 4; values = n ∷ [] }) number_same ∙ sym (automatic-reason _ _ _ _ _ i b)
+    by_mark granted a b = granted-reason _ _ _ _ _ i a ∙ sym (granted-reason _ _ _ _ _ i b)
 
-    pub said_same : {n : ℕ} → Mark n → marks' i ≡ n → said groups sums sides grouping marks i ≡ said groups' sums' sides' grouping' marks' i
-    said_same k e = by_mark k (m i l ∙ e) e
+    pub reason_same : {n : ℕ} → Mark n → marks' i ≡ n → reason_by groups sums sides grouping marks i ≡ reason_by groups' sums' sides' grouping' marks' i
+    reason_same k e = by_mark k (m i l ∙ e) e
 
 -- a place that is listed and in effect, or not, by its verdict
 pub on_place : (b : Bool) (v : Verdict) → is_violation (cond b v not_judged).code ≡ true → b ≡ true
@@ -140,8 +140,8 @@ module _ (S B C G : List ℕ) {l : Layout} (e : granted_answer S B C G ≡ good 
     day-sides = sides_there _ _ taken
 
 -- a held month says of a place what the firm's month says
-pub held-said : (S B C G : List ℕ) {m : Month} → GrantedIs S B C G (Ok m) → (i : ℕ) → i < places → held_said S B m i ≡ said_at S B C G m.layout i
-held-said S B C G {m} told i h =
+pub held-reason : (S B C G : List ℕ) {m : Month} → GrantedIs S B C G (Ok m) → (i : ℕ) → i < places → held_reason S B m i ≡ reason_at S B C G m.layout i
+held-reason S B C G {m} told i h =
     let l = m.layout in
     let f = firm_place S l C in
     let n : (i : ℕ) → Bool = named S l C G in
@@ -149,7 +149,7 @@ held-said S B C G {m} told i h =
     let fields = held-fields S l B f n m told.held in
     let same : held_sides S B m i ≡ sides_or (day_sides (firm_totals S B C l (group_of i) (day_of i)) (group_at S l (group_of i)).benchmark)
     = ap₂ (λ (f : ℕ) (x : Group). sides_or (day_sides (totals_in l.groups B f (group_of i) (day_of i)) x.benchmark)) told.held.firm (fields i h) in
-    said_same _ _ _ _ _ _ _ _ _ _ fields (λ k q. ap (λ (x : GroupMonth). x.grouping) (g k q)) (held-mark S l B f n m told.held) i h
+    reason_same _ _ _ _ _ _ _ _ _ _ fields (λ k q. ap (λ (x : GroupMonth). x.grouping) (g k q)) (held-mark S l B f n m told.held) i h
     (ap (λ (x : GroupMonth). x.sums) (g i h)) (λ s. same ∙ day-sides S B C G (sym told.answer) i s)
     (mark_is (rules_of S) (granted_month S B C G l) i) refl
 

@@ -1,7 +1,7 @@
--- What is said of a day and group is true: a mark tells the tests that gave it.
+-- A reason is true: a mark tells the tests that gave it.
 use Prim.Native.Nat.{ℕ, ◌+◌, ◌-◌, ◌≤◌, ◌<◌}
 use mathlib.Core.Bool.{Bool, true, false, not, false≢true}
-use mathlib.Core.List.{List, []}
+use mathlib.Core.List.{List}
 use mathlib.Core.Path.{◌≡◌, refl, sym, ap, ◌∙◌}
 use native.Mathlib.Omega.{arith}
 use lib.Dec.{eqb, ltb}
@@ -14,21 +14,20 @@ use Rattle.rules.specs.Month.{Terms, DailyTotals}
 use Rattle.rules.specs.Marks.{places, Judged, left, mark}
 use Rattle.rules.specs.declared.Rules.{Rules}
 use Rattle.rules.proofs.Marks.{mark_severe, mark_billed, mark_monthly, mark_automatic, mark_granted, mark-none}
-use Rattle.lookup.specs.Lookup.{group_at}
 use Rattle.lookup.specs.InForce.{rules_of}
 use Rattle.month.specs.Month.{terms, firm_totals}
 use Rattle.grants.specs.Month.{granted_month}
-use Rattle.reason.specs.Beside.{Said, waivers_in}
+use Rattle.reason.specs.Beside.{Reason, waivers_in}
 use Rattle.reason.specs.Reason.{place_of}
-use Rattle.reason.specs.Laws.{SevereIs, MonthlyIs, AutomaticIs, GrantedIs, BilledIs, IsTrue, Laws}
-use Rattle.reason.proofs.Said.{no-violation, severe-said, billed-said, monthly-said, automatic-said, granted-said}
+use Rattle.reason.specs.Laws.{NoViolation, SevereIs, MonthlyIs, AutomaticIs, GrantedIs, BilledIs, IsTrue, Laws}
+use Rattle.reason.proofs.ByMark.{no-violation, severe-reason, billed-reason, monthly-reason, automatic-reason, granted-reason}
 use Rattle.reason.specs.declared.waivers.LastTwo.{LastTwo}
 use Rattle.std.specs.Prelude.{Some}
 use Rattle.reason.proofs.Answered.{Answered, answered, placed}
 use Rattle.reason.proofs.Severe.{tier, above_six}
 use Rattle.reason.proofs.Waived.{waived, waived-count, Two, two_before}
 
-module _ (S B C : List ℕ) (day : ℕ) (code G : List ℕ) {s : Said} (a : Answered S B C day code G s) where
+module _ (S B C : List ℕ) (day : ℕ) (code G : List ℕ) {s : Reason} (a : Answered S B C day code G s) where
   abbrev i : ℕ
   i = place_of S day code a.l
 
@@ -48,47 +47,48 @@ module _ (S B C : List ℕ) (day : ℕ) (code G : List ℕ) {s : Said} (a : Answ
   e = j.grouping i
 
   mark-is : s.mark ≡ mark P j i
-  mark-is = ap (λ (x : Said). x.mark) a.is
+  mark-is = ap (λ (x : Reason). x.mark) a.is
 
   -- a mark's test holds
   shows : (n : ℕ) → mark P j i ≡ n → eqb (mark P j i) n ≡ true
   shows n m = eq-eqb (mark P j i) n m
 
-  none_true : mark P j i ≡ 0 → (s.values ≡ []) × (is_violation (j.verdict i).code ≡ false)
-  none_true m = (
-    ap (λ (x : Said). x.values) (a.is ∙ no-violation _ _ _ _ _ i m),
-    not-true (is_violation (j.verdict i).code) (sym (mark-none P j i) ∙ shows 0 m),
-  )
+  none_true : mark P j i ≡ 0 → NoViolation S B C G a.l i s.values
+  none_true m =
+      record {
+        nothing_more = ap (λ (x : Reason). x.values) (a.is ∙ no-violation _ _ _ _ _ i m);
+        code = not-true (is_violation (j.verdict i).code) (sym (mark-none P j i) ∙ shows 0 m);
+      }
 
-  severe_true : mark P j i ≡ 1 → SevereIs P t c j (group_at S a.l) i s.values
+  severe_true : mark P j i ≡ 1 → SevereIs S B C G a.l i s.values
   severe_true m =
       let code : is_severe (j.verdict i).code ≡ true = first_so (is_severe (j.verdict i).code) _ (sym (mark_severe P j i) ∙ shows 1 m) in
       let m-is = tier P t c j.named i code in
       let above = ltb-true _ _ (above_six P t c j.named i code) in
       record {
-        sides = ap (λ (x : Said). x.values) (a.is ∙ severe-said _ _ _ _ _ i m) ∙ rw m-is refl;
+        sides = ap (λ (x : Reason). x.values) (a.is ∙ severe-reason _ _ _ _ _ i m) ∙ rw m-is refl;
         above = rw m-is above;
       }
 
-  monthly_true : mark P j i ≡ 3 → MonthlyIs P t c j (group_at S a.l) i s.values
+  monthly_true : mark P j i ≡ 3 → MonthlyIs S B C G a.l i s.values
   monthly_true m =
       record {
-        shown = ap (λ (x : Said). x.values) (a.is ∙ monthly-said _ _ _ _ _ i m);
+        shown = ap (λ (x : Reason). x.values) (a.is ∙ monthly-reason _ _ _ _ _ i m);
         exempt = second_so (eqb (j.verdict i).code 4) _ (sym (mark_monthly P j i) ∙ shows 3 m);
       }
 
-  automatic_true : mark P j i ≡ 4 → AutomaticIs P t c j (group_at S a.l) i s.values
+  automatic_true : mark P j i ≡ 4 → AutomaticIs S B C G a.l i s.values
   automatic_true m =
       let tests = second_so (eqb (j.verdict i).code 4) _ (sym (mark_automatic P j i) ∙ shows 4 m) in
       let free = ltb-true (count i (left j e)) 2 (second_so (not (j.exempt i)) _ tests) in
       let n : count i (waived P j e) ≡ count i (left j e) = omega (arith, free, waived-count P j e i) in
-      record { number = ap (λ (x : Said). x.values) (a.is ∙ automatic-said _ _ _ _ _ i m) ∙ rw n refl }
+      record { number = ap (λ (x : Reason). x.values) (a.is ∙ automatic-reason _ _ _ _ _ i m) ∙ rw n refl }
 
-  granted_true : mark P j i ≡ 5 → GrantedIs P t c j (group_at S a.l) i s.values
+  granted_true : mark P j i ≡ 5 → GrantedIs S B C G a.l i s.values
   granted_true m =
       let tests = sym (mark_granted P j i) ∙ shows 5 m in
       record {
-        nothing_more = ap (λ (x : Said). x.values) (a.is ∙ granted-said _ _ _ _ _ i m);
+        nothing_more = ap (λ (x : Reason). x.values) (a.is ∙ granted-reason _ _ _ _ _ i m);
         named = first_so (j.named i) _ tests;
         would_cost = second_so (j.named i) _ tests;
       }
@@ -124,7 +124,7 @@ module _ (S B C : List ℕ) (day : ℕ) (code G : List ℕ) {s : Said} (a : Answ
       go false true p r = absurd (false≢true (sym (w.last_is.after k (ltb-true w.b k r) h) ∙ is_line k q))
       go false false p r = omega (arith, ltb-false k w.b p, ltb-false w.b k r)
 
-  billed_true : mark P j i ≡ 2 → BilledIs P t c j (group_at S a.l) i s.values
+  billed_true : mark P j i ≡ 2 → BilledIs S B C G a.l i s.values
   billed_true m =
       let w = waivers m in
       let two : ◌≡◌ {A = LastTwo} (record { first = Some w.a; second = Some w.b }) (waivers_in j.grouping (mark P j) e) = rw (w.last_is.is, w.first_is.is) refl in
@@ -132,7 +132,7 @@ module _ (S B C : List ℕ) (day : ℕ) (code G : List ℕ) {s : Said} (a : Answ
       record {
         a = w.a;
         b = w.b;
-        shown = ap (λ (x : Said). x.values) (a.is ∙ billed-said _ _ _ _ _ i m two refl refl);
+        shown = ap (λ (x : Reason). x.values) (a.is ∙ billed-reason _ _ _ _ _ i m two refl refl);
         fails = not-true (j.exempt i) (first_so (not (j.exempt i)) _ tests);
         first = line_is w.a w.first_is.holds;
         second = line_is w.b w.last_is.holds;

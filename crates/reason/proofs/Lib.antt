@@ -1,6 +1,6 @@
 pub mod Loops
 pub mod Groups
-pub mod Said
+pub mod ByMark
 pub mod Marks
 pub mod Held
 pub mod Answers

@@ -1,4 +1,4 @@
--- What is said beside a line: of the marks, the exchange groupings, the groups and their sums, and the sides of a day's comparison (document 02, 2.7).
+-- The reasons of document 02, 2.7, worked out from a month's marks and exchange groupings, the groups' codes and sums, and the sides of severe days.
 -- `Explanation`, `Waiver` and `LastTwo` are types of src/.
 -- Assumes nothing.
 use Rattle.std.specs.Prelude.{ℕ, ◌+◌, Bool, ◌&&◌, List, [], ◌∷◌, ◌++◌, Option, Some, None, eqb}
@@ -13,8 +13,8 @@ use Rattle.reason.specs.declared.Explanation.TheVariants as explained
 use Rattle.reason.specs.declared.Waiver.{Waiver}
 use Rattle.reason.specs.declared.waivers.LastTwo.{LastTwo}
 
--- 2.7: what is said of a firm's day in a group: the mark of its line (0: not a violation), and the values that go with it, in the request's order
-pub record Said : Type 0 where
+-- 2.7: a reason: the mark of the line (0: not a violation), and the values that go with it, in the request's order
+pub record Reason : Type 0 where
   pub mark : ℕ
   pub values : List ℕ
 
@@ -30,24 +30,26 @@ sums_shown s = s.raw ∷ s.score ∷ s.lots ∷ s.days ∷ []
 abbrev pub waiver_shown : Waiver → List ℕ
 waiver_shown w = w.day ∷ w.code
 
--- 2.7: each answer's mark and values
-abbrev pub said_by : Explanation → Said
-said_by explained.NotAViolation = record { mark = 0; values = [] }
-said_by (explained.Severe s) = record { mark = 1; values = sides_shown s }
-said_by (explained.Monthly s) = record { mark = 3; values = sums_shown s }
-said_by (explained.Automatic n) = record { mark = 4; values = n ∷ [] }
-said_by explained.Granted = record { mark = 5; values = [] }
-said_by (explained.Billed s w v) = record { mark = 2; values = sums_shown s ++ waiver_shown w ++ waiver_shown v }
+-- 2.7: each answer's mark and values, by its cases
+abbrev pub reason_of : Explanation → Reason
+reason_of explained.NotAViolation = record { mark = 0; values = [] }
+reason_of (explained.Severe s) = record { mark = 1; values = sides_shown s }
+reason_of (explained.Monthly s) = record { mark = 3; values = sums_shown s }
+reason_of (explained.Automatic n) = record { mark = 4; values = n ∷ [] }
+reason_of explained.Granted = record { mark = 5; values = [] }
+reason_of (explained.Billed s w v) = record { mark = 2; values = sums_shown s ++ waiver_shown w ++ waiver_shown v }
 
--- the last two places below n at which p holds, the earlier first; where there is one alone, it stands first
+-- place k, and the one before it, where there is one
 abbrev pub with_before : (k : ℕ) → Option ℕ → LastTwo
 with_before k None = record { first = Some k; second = None }
 with_before k (Some i) = record { first = Some i; second = Some k }
 
+-- the same of a last place, where there is one
 abbrev pub two_up_to : (p : ℕ → Bool) → Option ℕ → LastTwo
 two_up_to p None = record { first = None; second = None }
 two_up_to p (Some k) = with_before k (last_below k p)
 
+-- the last two places below n at which p holds, the earlier first
 abbrev pub last_two : (n : ℕ) → (p : ℕ → Bool) → LastTwo
 last_two n p = two_up_to p (last_below n p)
 
@@ -64,13 +66,13 @@ module _ (grouping marks : (i : ℕ) → ℕ) where
   abbrev pub waivers_in : (e : ℕ) → LastTwo
   waivers_in e = last_two places (is_automatic e)
 
--- the day and group code of the waiver at a place; of none, zeros
+-- the day and group code of the waiver at a place; of none, which no billed line comes to (Laws.BilledIs), zeros
 abbrev pub waiver_at : (groups : (g : ℕ) → Group) → Option ℕ → Waiver
 waiver_at groups None = record { day = 0; code = 0 ∷ 0 ∷ [] }
 waiver_at groups (Some i) = record { day = day_of i; code = (groups (group_of i)).code }
 
 module _ (groups : (g : ℕ) → Group) (sums : (g : ℕ) → MonthSums) (sides : (i : ℕ) → Sides) (grouping marks : (i : ℕ) → ℕ) where
-  -- 2.7: not a violation; severe, with both sides of the six-times comparison; monthly exempt, with R, S, V and d; automatic, its number; granted;
+  -- 2.7: by the mark: not a violation; severe, with both sides of the six-times comparison; monthly exempt, with R, S, V and d; automatic, its number; granted;
   -- billed, with R, S, V and d and the day and group code of the last two automatic waivers in its grouping, the earlier first
   unfoldable pub values_at : (i : ℕ) → List ℕ
   values_at i =
@@ -84,5 +86,6 @@ module _ (groups : (g : ℕ) → Group) (sums : (g : ℕ) → MonthSums) (sides 
       ∷ [])
       (sums_shown (sums (group_of i)) ++ waiver_shown (waiver_at groups w.first) ++ waiver_shown (waiver_at groups w.second))
 
-  abbrev pub said : (i : ℕ) → Said
-  said i = record { mark = marks i; values = values_at i }
+  -- the reason for place i
+  abbrev pub reason_by : (i : ℕ) → Reason
+  reason_by i = record { mark = marks i; values = values_at i }

@@ -19,11 +19,11 @@ use Rattle.activity.specs.Correction.{correction_fields}
 use Rattle.book.specs.Book.{per_firm_group, check_book, open_book}
 use Rattle.book.specs.Post.{taking}
 use Rattle.accepted.specs.Accepted.{posted}
-use Rattle.accepted.specs.Samples.{ABC, orders, fifth, ninth, three_groups, many_marks}
+use Rattle.accepted.specs.Samples.{head, group, ABC, firm, orders, fifth, ninth, three_groups, many_marks}
 use Rattle.month.specs.Month.{any_excess, month_answer}
 use Rattle.grants.specs.Month.{granted_answer}
 use Rattle.grants.specs.Example.{grant}
-use Rattle.reason.specs.Beside.{Said, values_at}
+use Rattle.reason.specs.Beside.{Reason, values_at}
 use Rattle.reason.specs.Reason.{reason_answer}
 
 -- the groups' codes
@@ -43,16 +43,16 @@ ZZZ = 90 ∷ 90 ∷ 90 ∷ []
 abbrev XX : List ℕ
 XX = 88 ∷ 88 ∷ []
 
--- the book after a list of posts
-abbrev book : List (List ℕ) → List ℕ
-book rs = posted three_groups (open_book three_groups (table (per_firm_group * 3) (λ i. 9))) rs
+-- the book of a schedule with three groups after a list of posts
+abbrev book : (S : List ℕ) → List (List ℕ) → List ℕ
+book S rs = posted S (open_book S (table (per_firm_group * 3) (λ i. 9))) rs
 
 -- the reason for a day and group of ABC after a list, with grants
-abbrev told : List (List ℕ) → (day : ℕ) → (code G : List ℕ) → Outcome Said
-told rs day code G = reason_answer three_groups (book rs) ABC day code G
+abbrev told : List (List ℕ) → (day : ℕ) → (code G : List ℕ) → Outcome Reason
+told rs day code G = reason_answer three_groups (book three_groups rs) ABC day code G
 
 -- a mark with its values
-abbrev marked : (mark : ℕ) → (values : List ℕ) → Outcome Said
+abbrev marked : (mark : ℕ) → (values : List ℕ) → Outcome Reason
 marked mark values = good (record { mark = mark; values = values })
 
 -- a severe day of the lowest tier, 3,000,000 against 6 × 1,000 × 3 × 100, and one of the highest, the ninth marked day
@@ -63,9 +63,16 @@ severe_days = orders 69 83 3 0 30000 0 100 ∷ ninth 69 83 4 ∷ []
 abbrev two_at_once : List (List ℕ)
 two_at_once = fifth 90 67 1 10000 ∷ fifth 69 83 1 10000 ∷ fifth 69 83 3 10000 ∷ []
 
+-- the same groups with every day in effect, and the book that such a month fills
+abbrev all_days : List ℕ
+all_days = head 0 ++ group 69 83 1 ++ group 67 76 2 ++ group 90 67 1 ++ firm
+
+abbrev full_book : List ℕ
+full_book = book all_days many_marks
+
 -- what is answered of a firm, day and group after no posts
-abbrev refusing : (C : List ℕ) → (day : ℕ) → (code G : List ℕ) → Outcome Said
-refusing C day code G = reason_answer three_groups (book []) C day code G
+abbrev refusing : (C : List ℕ) → (day : ℕ) → (code G : List ℕ) → Outcome Reason
+refusing C day code G = reason_answer three_groups (book three_groups []) C day code G
 
 pub record Example : Type 0 where
   pub automatic : told many_marks 1 ES [] ≡ marked 4 (1 ∷ [])
@@ -76,9 +83,10 @@ pub record Example : Type 0 where
   pub severe : told many_marks 5 ES [] ≡ marked 1 (300 ∷ 0 ∷ [])
   -- the sums are of ZC's own days
   pub monthly : told many_marks 1 ZC [] ≡ marked 3 (122001 ∷ 143000 ∷ 1010000 ∷ 2 ∷ [])
-  -- a failing cell on a day not in effect, and a day without messages
-  pub closed : told many_marks 2 ES [] ≡ marked 0 []
+  -- a day without messages; and a failing cell on a day not in effect, which would be the second automatic line if it were
   pub silent : told many_marks 9 ES [] ≡ marked 0 []
+  pub closed : reason_answer three_groups full_book ABC 2 ES [] ≡ marked 0 []
+  pub open_day : reason_answer all_days full_book ABC 2 ES [] ≡ marked 4 (2 ∷ [])
   -- a granted severe day answers granted, and so does a billed one; an automatic one stays, and keeps its number
   pub granted_severe : told many_marks 5 ES (grant ABC 5 69 83) ≡ marked 5 []
   pub granted_billed : told many_marks 4 ES (grant ABC 4 69 83) ≡ marked 5 []
@@ -93,11 +101,14 @@ pub record Example : Type 0 where
   pub long_code : refusing ABC 1 (69 ∷ 83 ∷ 69 ∷ []) [] ≡ refused 15 0
   pub day_0 : refusing ABC 0 ES [] ≡ refused 16 0
   pub day_32 : refusing ABC 32 ES [] ≡ refused 16 0
-  -- 8 before 15, 15 before 16, 16 before 21, 21 before 34 and 35
+  -- 8 before 15, 15 before 16 and 21, 16 before 21, 21 before 34 and 35; 22
   pub short_book : reason_answer three_groups [] ABC 1 XX [] ≡ refused 8 0
   pub both_unknown : refusing ABC 0 XX [] ≡ refused 15 0
+  pub group_first : refusing ZZZ 1 XX [] ≡ refused 15 0
   pub day_first : refusing ZZZ 0 ES [] ≡ refused 16 0
-  pub firm_first : refusing ZZZ 1 ES (take 9 (grant ABC 1 69 83)) ≡ refused 21 0
+  pub before_34 : refusing ZZZ 1 ES (take 9 (grant ABC 1 69 83)) ≡ refused 21 0
+  pub before_35 : refusing ZZZ 1 ES (grant ABC 1 88 88) ≡ refused 21 0
+  pub spoilt_book : reason_answer three_groups (table (per_firm_group * 3) (λ i. 10000000001)) ABC 1 ES [] ≡ refused 22 0
   pub cut_grant : refusing ABC 1 ES (take 9 (grant ABC 1 69 83)) ≡ refused 34 0
   pub no_such_cell : refusing ABC 1 ES (grant ABC 1 88 88) ≡ refused 35 0
 
@@ -114,8 +125,9 @@ example =
       billed = refl;
       severe = refl;
       monthly = refl;
-      closed = refl;
       silent = refl;
+      closed = refl;
+      open_day = refl;
       granted_severe = refl;
       granted_billed = refl;
       granted_automatic = refl;
@@ -129,8 +141,11 @@ example =
       day_32 = refl;
       short_book = refl;
       both_unknown = refl;
+      group_first = refl;
       day_first = refl;
-      firm_first = refl;
+      before_34 = refl;
+      before_35 = refl;
+      spoilt_book = refl;
       cut_grant = refl;
       no_such_cell = refl;
     }

@@ -9,20 +9,23 @@ use Rattle.book.specs.Book.{totals_in}
 use Rattle.month.specs.Parts.{no_group, held_mark, held_fields, held_grouping}
 use Rattle.month.specs.declared.days.MonthSums.{MonthSums}
 use Rattle.month.specs.declared.Month.{Month}
-use Rattle.reason.specs.Beside.{Said, is_automatic, number_at, waivers_in, said}
+use Rattle.reason.specs.Beside.{Reason, is_automatic, number_at, waivers_in, reason_by}
 use Rattle.reason.specs.declared.firm.FirmMonth.{FirmMonth}
 use Rattle.reason.specs.declared.waivers.LastTwo.{LastTwo}
 
--- the exchange groupings, the marks, and the fields and sums of the groups
+-- the exchange grouping of a place
 abbrev pub grouping_in : FirmMonth → (i : ℕ) → ℕ
 grouping_in x = held_grouping x.month.now
 
+-- its mark
 abbrev pub marks_in : FirmMonth → (i : ℕ) → ℕ
 marks_in x = held_mark x.month.now
 
+-- a group's fields
 abbrev pub fields_in : FirmMonth → (g : ℕ) → Group
 fields_in x = held_fields x.schedule.now x.month.now
 
+-- and its sums
 abbrev pub held_sums : Month → (g : ℕ) → MonthSums
 held_sums m g = (get_or m.groups g no_group).sums
 
@@ -31,6 +34,7 @@ abbrev pub sides_or : Option Sides → Sides
 sides_or None = record { scored = 0; allowed = 0 }
 sides_or (Some s) = s
 
+-- those of a place's cell
 abbrev pub held_sides : (S B : List ℕ) → Month → (i : ℕ) → Sides
 held_sides S B m i =
     sides_or (day_sides (totals_in m.layout.groups B m.firm (group_of i) (day_of i)) (held_fields S m (group_of i)).benchmark)
@@ -38,19 +42,21 @@ held_sides S B m i =
 abbrev pub sides_in : FirmMonth → (i : ℕ) → Sides
 sides_in x = held_sides x.schedule.now x.book.now x.month.now
 
--- the automatic lines of an exchange grouping, an automatic line's number, and the last two of a grouping
+-- the automatic lines of an exchange grouping
 abbrev pub automatic_in : FirmMonth → (e i : ℕ) → Bool
 automatic_in x = is_automatic (grouping_in x) (marks_in x)
 
+-- an automatic line's number
 abbrev pub number_in : FirmMonth → (i : ℕ) → ℕ
 number_in x = number_at (grouping_in x) (marks_in x)
 
+-- the last two of a grouping
 abbrev pub two_in : FirmMonth → (e : ℕ) → LastTwo
 two_in x = waivers_in (grouping_in x) (marks_in x)
 
--- what is said of a place
-abbrev pub held_said : (S B : List ℕ) → Month → (i : ℕ) → Said
-held_said S B m = said (held_fields S m) (held_sums m) (held_sides S B m) (held_grouping m) (held_mark m)
+-- the reason for a place
+abbrev pub held_reason : (S B : List ℕ) → Month → (i : ℕ) → Reason
+held_reason S B m = reason_by (held_fields S m) (held_sums m) (held_sides S B m) (held_grouping m) (held_mark m)
 
-abbrev pub said_in : FirmMonth → (i : ℕ) → Said
-said_in x = held_said x.schedule.now x.book.now x.month.now
+abbrev pub reason_in : FirmMonth → (i : ℕ) → Reason
+reason_in x = held_reason x.schedule.now x.book.now x.month.now

@@ -1,8 +1,8 @@
-// What is said of a place, out of a firm's month.
+// The reason for a place, out of a firm's month.
 ghost use Rattle.std.specs.Prelude.{ℕ, Some, ◌≡◌, ◌≤◌, ◌<◌};
 ghost use Rattle.rules.specs.Marks.{places, group_of};
-ghost use Rattle.reason.specs.Beside.{said_by, waiver_at};
-ghost use Rattle.reason.specs.Parts.{grouping_in, marks_in, fields_in, sides_in, said_in};
+ghost use Rattle.reason.specs.Beside.{reason_of, waiver_at};
+ghost use Rattle.reason.specs.Parts.{grouping_in, marks_in, fields_in, sides_in, reason_in};
 
 use crate::{Explanation, Waiver};
 use book::cell_in;
@@ -69,7 +69,7 @@ impl FirmMonth<'_> {
     pub(crate) fn explain(&self, i: usize) -> Explanation
         requires i_lt_places { i < places }
         requires mark_value { marks_in self.now i ≤ 5 }
-        ensures { said_by result ≡ said_in self.now i }
+        ensures { reason_of result ≡ reason_in self.now i }
     {
         let sums = self.month.groups[i % GROUPS].sums;
         match self.month.marks[i] {

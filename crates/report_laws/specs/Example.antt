@@ -19,11 +19,11 @@ use Rattle.activity.specs.Correction.{correction_fields}
 use Rattle.book.specs.Book.{check_book}
 use Rattle.book.specs.Post.{taking}
 use Rattle.accepted.specs.Accepted.{posted}
-use Rattle.accepted.specs.Samples.{firm, activity, correction}
+use Rattle.accepted.specs.Samples.{firm, activity, correction, three_groups, many_marks}
 use Rattle.month.specs.Month.{any_excess, month_answer}
 use Rattle.grants.specs.Month.{granted_answer}
 use Rattle.statement.specs.Lines.{line_at, tally, shown}
-use Rattle.guarantee.specs.Example.{schedule, run, three_groups, many_marks}
+use Rattle.guarantee.specs.Example.{schedule, run}
 use Rattle.text.specs.Text.{text, decimal}
 use Rattle.text.specs.Lines.{refused_at, heading, refused_line, mark_word, counts, violation_line, totals_line}
 use Rattle.input.specs.Input.{bytes_before, records_from}

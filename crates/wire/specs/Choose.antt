@@ -29,7 +29,7 @@ seek i n p = seek_in (n - i) i p
 abbrev pub some : (n : ℕ) → (ℕ → Bool) → Bool
 some n p = ltb (seek 0 n p) n
 
--- the last place below n at which p holds
+-- the last place below n at which p holds, None where it holds at none
 unfoldable pub last_below : (n : ℕ) → (ℕ → Bool) → Option ℕ
 last_below zero p = None
 last_below (suc n) p = cond (p n) (Some n) (last_below n p)

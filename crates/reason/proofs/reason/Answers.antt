@@ -1,13 +1,13 @@
--- Refusals 1 to 8 are those of the check; an unlisted group is 15 and a day that the month has not 16; then a refused month refuses, and what is said of a
--- month that is held is what the month says.
+-- Refusals 1 to 8 are those of the check; an unlisted group is 15 and a day that the month has not 16; then a refused month refuses, and the reason
+-- for a place of a held month is that of the month.
 use Rattle.std.proofs.Common.{◌≡◌, ◌+◌, ◌-◌, ◌*◌, Err, refl, sym, ap, ◌∙◌}
 use Rattle.std.proofs.lemmas.Result.{err_from_is_err_and}
 use Rattle.refusals.specs.declared.Cause.TheVariants as cause
 use Rattle.lookup.specs.Lookup.{group_listed}
 use Rattle.lookup.proofs.Laws.{group-found, group_unlisted}
-use Rattle.reason.specs.Reason.{said_at, place_of}
-use Rattle.reason.proofs.Answers.{is-refused, is_15, is_16, is-month, is-said, inside}
-use Rattle.reason.proofs.Held.{held-said, held-most}
+use Rattle.reason.specs.Reason.{reason_at, place_of}
+use Rattle.reason.proofs.Answers.{is-refused, is_15, is_16, is-month, is-reason, inside}
+use Rattle.reason.proofs.Held.{held-reason, held-most}
 use Rattle.reason.proofs.reason.Goals as goal
 
 pub returns-in_err-layout : goal.returns-in_err-layout
@@ -57,6 +57,6 @@ returns c =
     let told = c.in_ok-month.ensures in
     let at : (c.from-2.result - 1) * 32 + c.from-3.result ≡ place_of a.schedule.now a.day a.group.now c.in_ok-layout.layout
     = rw (c.from-2.ensures, c.from-3.ensures, ← f.first) refl in
-    sym (is-said _ _ _ _ _ _ (sym c.in_ok-layout.ensures) f.listed known (sym told.answer)
-    (c.explain.ensures ∙ held-said _ _ _ _ told _ (rw (c.from-2.ensures, c.from-3.ensures) (inside _ _ (sym c.in_ok-layout.ensures) _ _ f.inside known))
-    ∙ ap (said_at a.schedule.now a.book.now a.firm.now a.grants.now c.in_ok-month.month.layout) at))
+    sym (is-reason _ _ _ _ _ _ (sym c.in_ok-layout.ensures) f.listed known (sym told.answer)
+    (c.explain.ensures ∙ held-reason _ _ _ _ told _ (rw (c.from-2.ensures, c.from-3.ensures) (inside _ _ (sym c.in_ok-layout.ensures) _ _ f.inside known))
+    ∙ ap (reason_at a.schedule.now a.book.now a.firm.now a.grants.now c.in_ok-month.month.layout) at))

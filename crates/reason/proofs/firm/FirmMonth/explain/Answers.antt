@@ -1,7 +1,7 @@
 -- Each mark has its case, and no mark is above 5, so that what is left is billed.
 use Rattle.std.proofs.Common.{◌≡◌, sym, ap, ◌∙◌, arith}
 use Rattle.reason.specs.Parts.{automatic_in, two_in, marks_in}
-use Rattle.reason.proofs.Said.{no-violation, severe-said, billed-said, monthly-said, automatic-said, granted-said, first_inside, second_inside}
+use Rattle.reason.proofs.ByMark.{no-violation, severe-reason, billed-reason, monthly-reason, automatic-reason, granted-reason, first_inside, second_inside}
 use Rattle.reason.proofs.firm.FirmMonth.explain.Goals as goal
 
 pub waiver-requires : goal.waiver-requires
@@ -14,18 +14,18 @@ pub returns-in-0 : goal.returns-in-0
 returns-in-0 c = sym (no-violation _ _ _ _ _ _ c.in-0.is)
 
 pub returns-in-1 : goal.returns-in-1
-returns-in-1 c = rw c.sides.ensures (sym (severe-said _ _ _ _ _ _ c.in-1.is))
+returns-in-1 c = rw c.sides.ensures (sym (severe-reason _ _ _ _ _ _ c.in-1.is))
 
 pub returns-in-3 : goal.returns-in-3
-returns-in-3 c = sym (monthly-said _ _ _ _ _ _ c.in-3.is)
+returns-in-3 c = sym (monthly-reason _ _ _ _ _ _ c.in-3.is)
 
 pub returns-in-4 : goal.returns-in-4
-returns-in-4 c = rw c.number.ensures (sym (automatic-said _ _ _ _ _ _ c.in-4.is))
+returns-in-4 c = rw c.number.ensures (sym (automatic-reason _ _ _ _ _ _ c.in-4.is))
 
 pub returns-in-5 : goal.returns-in-5
-returns-in-5 c = sym (granted-said _ _ _ _ _ _ c.in-5.is)
+returns-in-5 c = sym (granted-reason _ _ _ _ _ _ c.in-5.is)
 
 pub returns-in_default : goal.returns-in_default
 returns-in_default c =
     let two : marks_in c.args.self.now c.args.i ≡ 2 = omega (arith, c.in_default, c.requires.mark_value) in
-    sym (billed-said _ _ _ _ _ _ two (c.last_two-waivers.ensures ∙ ap (two_in c.args.self.now) c.grouping.ensures) c.waiver.ensures c.waiver-in_default.ensures)
+    sym (billed-reason _ _ _ _ _ _ two (c.last_two-waivers.ensures ∙ ap (two_in c.args.self.now) c.grouping.ensures) c.waiver.ensures c.waiver-in_default.ensures)

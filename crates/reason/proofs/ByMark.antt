@@ -1,4 +1,4 @@
--- What is said of a place, by its mark; and that the waivers named stand among the places.
+-- The reason for a place, by its mark; and that the waivers named stand among the places.
 use Prim.Native.Nat.{ℕ, ◌<◌}
 use mathlib.Core.Bool.{Bool}
 use mathlib.Core.List.{[], ◌∷◌, ◌++◌}
@@ -13,37 +13,37 @@ use Rattle.records.specs.declared.fields.Group.{Group}
 use Rattle.month.specs.declared.days.MonthSums.{MonthSums}
 use Rattle.reason.specs.declared.Waiver.{Waiver}
 use Rattle.reason.specs.declared.waivers.LastTwo.{LastTwo}
-use Rattle.reason.specs.Beside.{Said, sides_shown, sums_shown, waiver_shown, with_before, two_up_to, last_two, number_at, waivers_in, waiver_at, values_at, said}
+use Rattle.reason.specs.Beside.{Reason, sides_shown, sums_shown, waiver_shown, with_before, two_up_to, last_two, number_at, waivers_in, waiver_at, values_at, reason_by}
 
 module _ (groups : (g : ℕ) → Group) (sums : (g : ℕ) → MonthSums) (sides : (i : ℕ) → Sides) (grouping marks : (i : ℕ) → ℕ) (i : ℕ) where
-  abbrev it : Said
-  it = said groups sums sides grouping marks i
+  abbrev it : Reason
+  it = reason_by groups sums sides grouping marks i
 
   pub no-violation : marks i ≡ 0 → it ≡ record { mark = 0; values = [] }
   unfolding values_at choose
   no-violation e = rw e refl
 
-  pub severe-said : marks i ≡ 1 → it ≡ record { mark = 1; values = sides_shown (sides i) }
+  pub severe-reason : marks i ≡ 1 → it ≡ record { mark = 1; values = sides_shown (sides i) }
   unfolding values_at choose
-  severe-said e = rw e refl
+  severe-reason e = rw e refl
 
-  pub billed-said : marks i ≡ 2 → {two : LastTwo} {w v : Waiver} → two ≡ waivers_in grouping marks (grouping i)
+  pub billed-reason : marks i ≡ 2 → {two : LastTwo} {w v : Waiver} → two ≡ waivers_in grouping marks (grouping i)
       → w ≡ waiver_at groups two.first → v ≡ waiver_at groups two.second
       → it ≡ record { mark = 2; values = sums_shown (sums (group_of i)) ++ waiver_shown w ++ waiver_shown v }
   unfolding values_at choose
-  billed-said k t a b = rw (a, b, t, k) refl
+  billed-reason k t a b = rw (a, b, t, k) refl
 
-  pub monthly-said : marks i ≡ 3 → it ≡ record { mark = 3; values = sums_shown (sums (group_of i)) }
+  pub monthly-reason : marks i ≡ 3 → it ≡ record { mark = 3; values = sums_shown (sums (group_of i)) }
   unfolding values_at choose
-  monthly-said e = rw e refl
+  monthly-reason e = rw e refl
 
-  pub automatic-said : marks i ≡ 4 → it ≡ record { mark = 4; values = number_at grouping marks i ∷ [] }
+  pub automatic-reason : marks i ≡ 4 → it ≡ record { mark = 4; values = number_at grouping marks i ∷ [] }
   unfolding values_at choose
-  automatic-said e = rw e refl
+  automatic-reason e = rw e refl
 
-  pub granted-said : marks i ≡ 5 → it ≡ record { mark = 5; values = [] }
+  pub granted-reason : marks i ≡ 5 → it ≡ record { mark = 5; values = [] }
   unfolding values_at choose
-  granted-said e = rw e refl
+  granted-reason e = rw e refl
 
 module _ (p : ℕ → Bool) where
   before_inside : (k i : ℕ) (o : Option ℕ) → last_below k p ≡ o → (with_before k o).second ≡ Some i → i ≡ k
