@@ -51,7 +51,7 @@ fn print_sums(rt: &impl Print, word: &str, sums: MonthSums) {
     say(print!(rt; "reason {word} {raw} {score} {lots} {days}"));
 }
 
-// The code stands in hexadecimal digits, since it is two zeros where there is no waiver.
+// The code stands in hexadecimal digits, as the second implementation prints it.
 fn print_waiver(rt: &impl Print, waiver: Waiver) {
     let mut text = [0; 4];
     let digits = put_hex(&waiver.code, &mut text);

@@ -44,7 +44,7 @@ abbrev pub with_before : (k : ℕ) → Option ℕ → LastTwo
 with_before k None = record { first = Some k; second = None }
 with_before k (Some i) = record { first = Some i; second = Some k }
 
--- the same of a last place, where there is one
+-- the last two places, the later being given: none where it is none
 abbrev pub two_up_to : (p : ℕ → Bool) → Option ℕ → LastTwo
 two_up_to p None = record { first = None; second = None }
 two_up_to p (Some k) = with_before k (last_below k p)

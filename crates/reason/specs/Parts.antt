@@ -1,4 +1,4 @@
--- What the arrays of a firm's month say beside its lines. The public contract does not cite these.
+-- The reason for a place as a month's arrays give it. The public contract does not cite these.
 -- Assumes nothing.
 use Rattle.std.specs.Prelude.{ℕ, Bool, List, Option, Some, None, get_or}
 use Rattle.rules.specs.Verdict.{day_sides}

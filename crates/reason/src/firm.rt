@@ -53,7 +53,7 @@ impl FirmMonth<'_> {
         }
     }
 
-    // Both sides of the six-times comparison of place i.
+    // Both sides of the six-times comparison of place i; zeros where 24 refuses the day.
     fn sides(&self, i: usize) -> Sides
         requires { i < places }
         ensures { result ≡ sides_in self.now i }
@@ -80,6 +80,7 @@ impl FirmMonth<'_> {
                 number: self.number(i),
             },
             5 => Explanation::Granted,
+            // 2, billed: no mark is above 5.
             _ => {
                 let waivers = self.last_two(self.grouping(i));
                 Explanation::Billed {

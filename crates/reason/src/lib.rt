@@ -17,14 +17,14 @@ use month::MonthSums;
 use refusals::{Cause, Refusal};
 use rules::{GROUPS, Sides};
 
-// An automatic waiver: the day and the group code of its line; zeros where there is none.
+// An automatic waiver: the day and the group code of its line; zeros where there is none, which no billed line has.
 #[derive(Clone, Copy, Debug, PartialEq, Eq, Default)]
 pub struct Waiver {
     pub day: u8,
     pub code: [u8; 2],
 }
 
-// What stands beside a day's line.
+// Why a firm's day in a group has its mark, or no line.
 #[derive(Clone, Copy, Debug, PartialEq, Eq)]
 pub enum Explanation {
     NotAViolation,
@@ -77,10 +77,10 @@ pub fn reason(
     }
     let month = granted_month(schedule, book, firm, grants)?;
     let i = (usize::from(day) - 1) * GROUPS + usize::from(group.index);
-    let of = FirmMonth {
+    let firm_month = FirmMonth {
         schedule,
         book,
         month: &month,
     };
-    Ok(of.explain(i))
+    Ok(firm_month.explain(i))
 }
