@@ -1,7 +1,7 @@
 -- The lines of the violations before a place are so many times thirteen bytes, so that the place's own line stands behind them, and is read back as
 -- it was written. A violation is at a place that is listed and in effect, and there the month's verdict is that on the cell.
 use Prim.Native.Nat.{ℕ, ◌+◌, ◌*◌, ◌≤◌, ◌<◌}
-use mathlib.Core.Bool.{Bool, true, false, cond, not, ◌&&◌, false≢true}
+use mathlib.Core.Bool.{true, cond, not, ◌&&◌, false≢true}
 use mathlib.Core.List.{List, [], ◌++◌, append_assoc}
 use mathlib.Core.Path.{◌≡◌, refl, sym, ap, subst, ◌∙◌}
 use native.Mathlib.Omega.{arith}
@@ -18,6 +18,7 @@ use Rattle.wire.proofs.Sums.{sum_same}
 use Rattle.rules.specs.Verdict.{version96, not_judged, is_violation}
 use Rattle.rules.specs.Marks.{places, day_of, group_of, Judged, is_billed, cost, mark}
 use Rattle.rules.specs.declared.Verdict.{Verdict}
+use Rattle.rules.proofs.Marks.{on_place}
 use Rattle.records.specs.declared.fields.Group.{Group}
 use Rattle.lookup.specs.Lookup.{group_at}
 use Rattle.lookup.specs.declared.Layout.{Layout}
@@ -95,16 +96,11 @@ line_read S l j i h v ys =
     totals : (e : ℕ) → List ℕ
     totals e = totals_bytes e (tally version96 j.grouping (mark version96 j) e places)
 
--- a place that is listed and in effect, or not, by its verdict
-judged_there : (b : Bool) (v : Verdict) → is_violation (cond b v not_judged).code ≡ true → cond b v not_judged ≡ v
-judged_there true v e = refl
-judged_there false v e = absurd (false≢true e)
-
 pub each_line : (S C : List ℕ) → is_listed S C ≡ true → EachLine S C
 each_line S C listed p t i h v =
     let l = layout S in
     let j : Judged = month S C p in
     let cell : j.verdict i ≡ cell_verdict S C p i
-    = judged_there (ltb (group_of i) l.groups && (terms S l).in_effect (day_of i)) (cell_verdict S C p i) v in
+    = ap (λ b. cond b (cell_verdict S C p i) not_judged) (on_place is_violation refl (ltb (group_of i) l.groups && (terms S l).in_effect (day_of i)) _ v) in
     subst (λ (v : Verdict). LineIs version96 (line_shown S C p i) (day_of i) (group_at S l (group_of i)) (mark version96 j i) v) cell
     (rw (run S C listed p (no_cause S C listed p t)).output (line_read S l j i h v (drop (length (statement_bytes S l j)) p.output)))

@@ -1,51 +1,46 @@
 -- A statement that is written shows the month that the reason is of. Line k is that of the violation before which k stand, and tells its place: its day, and
 -- its group by the code, since no code is repeated. So a line for the day and group is that of their place, and has its mark; and a group or day that the
 -- schedule doesn't know has no line.
-use Prim.Native.Nat.{ℕ, ◌+◌, ◌-◌, ◌*◌, ◌/◌, ◌%◌, ◌≤◌, ◌<◌}
+use Prim.Native.Nat.{ℕ, ◌+◌, ◌*◌, ◌<◌}
 use mathlib.Core.Bool.{Bool, true, false, cond, not, ◌&&◌, false≢true, not-not}
 use mathlib.Core.List.{List, [], ◌∷◌, ◌++◌}
 use mathlib.Core.Path.{◌≡◌, refl, sym, ap, ap₂, subst, ◌∙◌}
 use native.Mathlib.Omega.{arith}
 use lib.Dec.{eqb, ltb}
-use lib.ListN.{length, get_or, drop}
-use borrow.Author.Tests.{eqb-true, eq-eqb, ltb-true, ltb-false, not-false}
-use Rattle.std.specs.Str.{bytes_eq}
+use lib.ListN.{length, drop}
+use borrow.Author.Tests.{eqb-true, eq-eqb, ltb-true, not-false}
 use Rattle.std.specs.Cmp.{first_so, second_so}
 use Rattle.std.proofs.lemmas.Slice.Eq.{bytes_eq-Decides}
-use Rattle.wire.specs.Choose.{choose, some, within}
+use Rattle.wire.specs.Choose.{choose, within}
 use Rattle.wire.specs.Lists.{over}
 use Rattle.wire.specs.Sums.{count}
 use Rattle.wire.proofs.Bools.{never}
-use Rattle.wire.proofs.Choose.{here, next, chosen, some_at, none_some, sought}
-use Rattle.wire.proofs.Counts.{Numbered, numbered, count_before, count_rises}
+use Rattle.wire.proofs.Choose.{some_at, none_some, sought}
+use Rattle.wire.proofs.Counts.{Numbered, numbered, count_before, count_order}
 use Rattle.calendar.specs.Calendar.{has_day, in_effect}
 use Rattle.rules.specs.Verdict.{version96, is_violation}
 use Rattle.rules.specs.Marks.{places, day_of, group_of, Judged, mark}
-use Rattle.rules.proofs.Marks.{mark-none}
+use Rattle.rules.proofs.Marks.{on_place, mark-none}
 use Rattle.records.specs.Fields.{group_fields}
 use Rattle.refusals.specs.Outcome.{Outcome, refused, good, follow}
 use Rattle.lookup.specs.Lookup.{group_at, group_is, group_listed, group_place}
-use Rattle.lookup.specs.InForce.{rules_of}
 use Rattle.lookup.specs.declared.Layout.{Layout}
 use Rattle.schedule.specs.Check.{check_of}
 use Rattle.schedule.proofs.Good.{refused-good, good-schedule}
 use Rattle.schedule.proofs.Found.{group-own}
-use Rattle.book.specs.Book.{check_book}
 use Rattle.book.proofs.Checked.{sized}
 use Rattle.grants.specs.Month.{granted_month, granted_answer}
 use Rattle.grants.proofs.Answers.{granted-book}
-use Rattle.statement.specs.Layout.{line_size, both_totals, line_day, line_first, line_second, line_mark}
-use Rattle.statement.specs.Lines.{first_letter, second_letter}
+use Rattle.statement.specs.Layout.{line_size, both_totals, line_day, line_mark}
 use Rattle.statement.specs.Statement.{statement_bytes, need, statement_answer, statement_output}
 use Rattle.statement.proofs.Shown.{two_letters, bytes-length}
 use Rattle.reason.specs.Beside.{Reason}
-use Rattle.reason.specs.Reason.{unknown_causes, reason_answer}
+use Rattle.reason.specs.Reason.{reason_answer}
 use Rattle.reason.specs.Laws.{PlaceIs, BilledIs, IsTrue}
-use Rattle.reason.proofs.Held.{on_place}
 use Rattle.reason.proofs.Laws.{laws}
 use Rattle.guarantee.specs.Demand3.{layout}
 use Rattle.guarantee.specs.EachLine.{LineIs}
-use Rattle.guarantee.specs.OwnMark.{line_code, is_for, grouping_of, lines, line, has_line, WaiverLines, Agrees, Own, OwnMark}
+use Rattle.guarantee.specs.OwnMark.{line_code, is_for, grouping_of, lines_in, line_of, has_line, WaiverLines, Agrees, Own, OwnMark}
 use Rattle.guarantee.proofs.EachLine.{line_read}
 
 -- a statement that is written shows the month of what the schedule holds
@@ -103,10 +98,10 @@ module _ (S B C G out : List ℕ) {l : Layout} {n : ℕ} (q : granted_answer S B
   O = statement_output S B C G out
 
   abbrev line_at : (k : ℕ) → List ℕ
-  line_at k = drop (line_size * k) O
+  line_at = line_of O
 
   abbrev so_many : ℕ
-  so_many = (n - both_totals) / line_size
+  so_many = lines_in n
 
   checked : check_of S ≡ good l
   checked = (sized S (length B) (granted-book S B C G q)).schedule
@@ -121,7 +116,7 @@ module _ (S B C G out : List ℕ) {l : Layout} {n : ℕ} (q : granted_answer S B
   read i h v = rw w.output (line_read S l j i h v (drop (length (statement_bytes S l j)) out))
 
   on : (i : ℕ) → fails i ≡ true → (ltb (group_of i) l.groups && in_effect l.month l.closed (day_of i)) ≡ true
-  on i v = on_place _ _ v
+  on i v = on_place is_violation refl _ _ v
 
   below : (i : ℕ) → fails i ≡ true → group_of i < l.groups
   below i v = ltb-true (group_of i) l.groups (first_so (ltb (group_of i) l.groups) _ (on i v))
@@ -173,7 +168,7 @@ module _ (S B C G out : List ℕ) {l : Layout} {n : ℕ} (q : granted_answer S B
       subst (λ (d : ℕ). has_day l.month d ≡ true) t.day_is (days t.i t.at.holds),
     )
 
-    no-line : ((group_listed S l code ≡ true) × (has_day l.month day ≡ true) → ⊥) → has_line S O n day code ≡ false
+    no-line : ((group_listed S l code ≡ true) × (has_day l.month day ≡ true) → ⊥) → has_line O n day code ≡ false
     no-line z = none_some so_many (λ k. is_for day code (line_at k)) (λ k h. never _ (λ t. z (known k (told k h t))))
 
     module _ (p : ℕ) (at : PlaceIs S l day code p) where
@@ -195,10 +190,10 @@ module _ (S B C G out : List ℕ) {l : Layout} {n : ℕ} (q : granted_answer S B
           let same = its_place k t in
           rw (← t.at.number, ← same) (read t.i t.at.inside t.at.holds).mark_is
 
-      has-line : has_line S O n day code ≡ fails p
+      has-line : has_line O n day code ≡ fails p
       has-line = go (fails p) refl
         where
-          go : (b : Bool) → fails p ≡ b → has_line S O n day code ≡ b
+          go : (b : Bool) → fails p ≡ b → has_line O n day code ≡ b
           go true v =
               some_at so_many (λ k. is_for day code (line_at k)) (number p) (rw lines-are (count_before places fails p at.inside v)) (own_line v)
           go false v =
@@ -250,47 +245,35 @@ module _ (S B C G out : List ℕ) (day : ℕ) (code : List ℕ) {n : ℕ} {r : R
     own-grouping = grouping-is S (checked S B C G out is.holds written) code (group_of is.i) is.place.listed is.place.code_is
 
     grouping : (i : ℕ) → i < places → fails_at i ≡ true
-        → grouping_of S (line_code (line S (statement_output S B C G out) n day code (its_number i))) ≡ J.grouping i
+        → grouping_of S (line_code (line_of (statement_output S B C G out) (its_number i))) ≡ J.grouping i
     grouping = grouping-of S B C G out is.holds written
 
     shows : (i : ℕ) → i < places → fails_at i ≡ true
-        → LineIs version96 (line S (statement_output S B C G out) n day code (its_number i)) (day_of i) (group_at S is.l (group_of i)) (mark version96 J i) (J.verdict i)
+        → LineIs version96 (line_of (statement_output S B C G out) (its_number i)) (day_of i) (group_at S is.l (group_of i)) (mark version96 J i) (J.verdict i)
     shows = read S B C G out is.holds written
 
     codes : (i : ℕ) → i < places → fails_at i ≡ true
-        → line_code (line S (statement_output S B C G out) n day code (its_number i)) ≡ (group_at S is.l (group_of i)).code
+        → line_code (line_of (statement_output S B C G out) (its_number i)) ≡ (group_at S is.l (group_of i)).code
     codes = code-is S B C G out is.holds written
 
     -- a line names its place's day and group code
     names : (i : ℕ) → i < places → fails_at i ≡ true
-        → line_day (line S (statement_output S B C G out) n day code (its_number i)) ∷ line_code (line S (statement_output S B C G out) n day code (its_number i))
+        → line_day (line_of (statement_output S B C G out) (its_number i)) ∷ line_code (line_of (statement_output S B C G out) (its_number i))
         ≡ day_of i ∷ (group_at S is.l (group_of i)).code
     names i h v = ap₂ (λ (d : ℕ) (c : List ℕ). d ∷ c) (shows i h v).day_is (codes i h v)
 
-    -- a line after the first waiver's is of a place after it
-    after : (i : ℕ) → its_number b.a < its_number i → b.a < i
-    after i h = go (ltb b.a i) refl
-      where
-        go : (t : Bool) → ltb b.a i ≡ t → b.a < i
-        go true t = ltb-true b.a i t
-        go false t =
-            let le = ltb-false b.a i t in
-            let rise = count_rises i (b.a - i) fails_at in
-            let there : i + (b.a - i) ≡ b.a = omega arith in
-            absurd (omega (arith, rw there at rise, h))
-
     other-place : (k : ℕ) → its_number b.a < k
-        → (line_mark (line S (statement_output S B C G out) n day code k) ≡ 4)
-        × (grouping_of S (line_code (line S (statement_output S B C G out) n day code k)) ≡ grouping_of S code)
+        → (line_mark (line_of (statement_output S B C G out) k) ≡ 4)
+        × (grouping_of S (line_code (line_of (statement_output S B C G out) k)) ≡ grouping_of S code)
         → (i : ℕ) × Numbered places fails_at k i → k ≡ its_number b.b
     other-place k h is4 (i, at) =
         let there : its_number b.a < its_number i = rw at.number h in
         let marked : mark version96 J i ≡ 4
-        = sym (shows i at.inside at.holds).mark_is ∙ ap (λ (x : ℕ). line_mark (line S (statement_output S B C G out) n day code x)) at.number ∙ is4.0 in
+        = sym (shows i at.inside at.holds).mark_is ∙ ap (λ (x : ℕ). line_mark (line_of (statement_output S B C G out) x)) at.number ∙ is4.0 in
         let of : J.grouping i ≡ J.grouping is.i
         = sym (grouping i at.inside at.holds)
-        ∙ ap (λ (x : ℕ). grouping_of S (line_code (line S (statement_output S B C G out) n day code x))) at.number ∙ is4.1 ∙ own-grouping in
-        sym at.number ∙ ap its_number (b.no_other i (after i there) at.inside (of, marked))
+        ∙ ap (λ (x : ℕ). grouping_of S (line_code (line_of (statement_output S B C G out) x))) at.number ∙ is4.1 ∙ own-grouping in
+        sym at.number ∙ ap its_number (b.no_other i (count_order fails_at b.a i there) at.inside (of, marked))
 
     waiver-lines : WaiverLines S (statement_output S B C G out) n day code r.values
     unfolding group_fields
@@ -341,7 +324,7 @@ module _ (S B C G out : List ℕ) (day : ℕ) (code : List ℕ) {n : ℕ} (e : s
   unknown true false r m o w = let z : ◌≡◌ {A = ℕ} 16 m = cc in (rw (← z) refl, λ h. false≢true h.1)
   unknown true true r m o w = absurd (refused-good (sym w))
 
-  refused-own : (m o : ℕ) → reason_answer S B C day code G ≡ refused m o → (within 15 16 m ≡ true) × (has_line S (statement_output S B C G out) n day code ≡ false)
+  refused-own : (m o : ℕ) → reason_answer S B C day code G ≡ refused m o → (within 15 16 m ≡ true) × (has_line (statement_output S B C G out) n day code ≡ false)
   unfolding reason_answer
   refused-own m o w =
       let u = unknown (group_listed S l code) (has_day l.month day) _ m o (rw (granted-book S B C G q, q) at w) in

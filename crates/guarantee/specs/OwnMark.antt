@@ -25,19 +25,23 @@ is_for day code L = eqb (line_day L) day && bytes_eq (line_code L) code
 abbrev pub grouping_of : (S code : List ℕ) → ℕ
 grouping_of S code = (group_at S (layout S) (group_place S (layout S) code)).grouping
 
+-- Statement: the lines of so many bytes stand before two totals
+abbrev pub lines_in : (written : ℕ) → ℕ
+lines_in written = (written - both_totals) / line_size
+
+-- Statement: each line into the output after the last; line k, from 0
+abbrev pub line_of : (out' : List ℕ) → (k : ℕ) → List ℕ
+line_of out' k = drop (line_size * k) out'
+
+-- one of the lines is for a day and for the group with a code
+abbrev pub has_line : (out' : List ℕ) → (written day : ℕ) → (code : List ℕ) → Bool
+has_line out' written day code = some (lines_in written) (λ k. is_for day code (line_of out' k))
+
 -- of a statement of so many bytes, and of a day and a group
 module _ (S out' : List ℕ) (written day : ℕ) (code : List ℕ) where
-  -- Statement: the lines stand before two totals
-  abbrev pub lines : ℕ
-  lines = (written - both_totals) / line_size
-
-  -- Statement: each line into the output after the last; line k, from 0
+  -- line k
   abbrev pub line : (k : ℕ) → List ℕ
-  line k = drop (line_size * k) out'
-
-  -- a line is for the day and group
-  abbrev pub has_line : Bool
-  has_line = some lines (λ k. is_for day code (line k))
+  line = line_of out'
 
   -- line k is an automatic one of the group's exchange grouping
   abbrev pub is_waiver : (k : ℕ) → Type 0
@@ -55,19 +59,19 @@ module _ (S out' : List ℕ) (written day : ℕ) (code : List ℕ) where
     pub own : is_for day code (line k) ≡ true
     pub earlier : k₁ < k₂
     pub before : k₂ < k
-    pub inside : k < lines
-    pub no_other : (q : ℕ) → k₁ < q → q < lines → is_waiver q → q ≡ k₂
+    pub inside : k < lines_in written
+    pub no_other : (q : ℕ) → k₁ < q → q < lines_in written → is_waiver q → q ≡ k₂
 
   -- 2.7: the statement has a line for that day and group exactly when the reason is a violation, and that line's mark is the reason's
   pub record Agrees (r : Reason) : Type 0 where
-    pub violation : has_line ≡ not (eqb r.mark 0)
-    pub own_mark : (k : ℕ) → k < lines → is_for day code (line k) ≡ true → line_mark (line k) ≡ r.mark
+    pub violation : has_line out' written day code ≡ not (eqb r.mark 0)
+    pub own_mark : (k : ℕ) → k < lines_in written → is_for day code (line k) ≡ true → line_mark (line k) ≡ r.mark
     pub waivers : r.mark ≡ 2 → WaiverLines r.values
 
   -- 2.7: so it is with a reason; and what is refused is 15 or 16, a group or day that no line is for
   abbrev pub Own : Outcome Reason → Type 0
   Own (good r) = Agrees r
-  Own (refused n o) = (within 15 16 n ≡ true) × (has_line ≡ false)
+  Own (refused n o) = (within 15 16 n ≡ true) × (has_line out' written day code ≡ false)
 
 -- 2.7: its mark is the statement's own, wherever the statement is written
 abbrev pub OwnMark : (S B C G out : List ℕ) → (day : ℕ) → (code : List ℕ) → Type 0

@@ -1,7 +1,7 @@
 -- What the arrays of a firm's month say beside its lines is what the month says. The sides of a severe day are there, since its totals are within the
 -- limit and its group's benchmark is in range.
 use Prim.Native.Nat.{ℕ, ◌+◌, ◌≤◌, ◌<◌}
-use mathlib.Core.Bool.{Bool, true, false, cond, ◌&&◌, false≢true}
+use mathlib.Core.Bool.{Bool, true, false, ◌&&◌}
 use mathlib.Core.List.{List, [], ◌∷◌, ◌++◌}
 use mathlib.Core.Path.{◌≡◌, refl, sym, ap, ap₂, ◌∙◌}
 use native.Mathlib.Nat.{lt_trans}
@@ -14,11 +14,10 @@ use Rattle.wire.specs.Choose.{last_below}
 use Rattle.wire.specs.Sums.{bit}
 use Rattle.wire.proofs.Counts.{last_inside, last_same}
 use Rattle.wire.proofs.Sums.{sum_same}
-use Rattle.rules.specs.Verdict.{version96, not_judged, is_violation, fits, is_benchmark, is_refused, severe_sides, day_sides}
+use Rattle.rules.specs.Verdict.{version96, is_violation, fits, is_benchmark, is_refused, severe_sides, day_sides}
 use Rattle.rules.specs.Marks.{places, day_of, group_of, mark}
 use Rattle.rules.specs.declared.Totals.{Totals}
-use Rattle.rules.specs.declared.Verdict.{Verdict}
-use Rattle.rules.proofs.Marks.{mark-none}
+use Rattle.rules.proofs.Marks.{on_place, mark-none}
 use Rattle.rules.specs.declared.Sides.{Sides}
 use Rattle.records.specs.declared.fields.Group.{Group}
 use Rattle.month.specs.declared.days.MonthSums.{MonthSums}
@@ -101,11 +100,6 @@ module _ (groups groups' : (g : ℕ) → Group) (sums sums' : (g : ℕ) → Mont
     pub reason_same : {n : ℕ} → Mark n → marks' i ≡ n → reason_by groups sums sides grouping marks i ≡ reason_by groups' sums' sides' grouping' marks' i
     reason_same k e = by_mark k (m i l ∙ e) e
 
--- a place that is listed and in effect, or not, by its verdict
-pub on_place : (b : Bool) (v : Verdict) → is_violation (cond b v not_judged).code ≡ true → b ≡ true
-on_place true v e = refl
-on_place false v e = absurd (false≢true e)
-
 -- where 24 does not refuse the day its sides are there
 sides_there : (t : Totals) (B : ℕ) → is_refused 1 t B ≡ false → sides_or (day_sides t B) ≡ severe_sides version96 B 1 t
 unfolding day_sides
@@ -122,7 +116,7 @@ module _ (S B C G : List ℕ) {l : Layout} (e : granted_answer S B C G ≡ good 
         not-false (is_violation ((granted_month S B C G l).verdict i).code) (sym m ∙ ap (λ (n : ℕ). eqb n 0) severe_there)
 
     on : (ltb (group_of i) l.groups && in_effect l.month l.closed (day_of i)) ≡ true
-    on = on_place _ _ violation
+    on = on_place is_violation refl _ _ violation
 
     below : group_of i < l.groups
     below = ltb-true (group_of i) l.groups (first_so (ltb (group_of i) l.groups) _ on)

@@ -1,7 +1,7 @@
 -- A place whose code is severe is listed and in effect: there the verdict's factor is its tier's, and the score is above the severe multiple's bound.
 use Prim.Native.Nat.{ℕ, ◌*◌}
-use mathlib.Core.Bool.{Bool, true, false, cond, ◌&&◌, false≢true}
-use mathlib.Core.Path.{◌≡◌, refl, sym, ◌∙◌}
+use mathlib.Core.Bool.{Bool, true, cond, ◌&&◌}
+use mathlib.Core.Path.{◌≡◌, refl, sym, ap, ◌∙◌}
 use lib.Dec.{ltb}
 use Rattle.std.specs.Cmp.{first_so, second_so}
 use Rattle.rules.specs.Verdict.{verdict, not_judged, tier_factor, is_severe, exceeds}
@@ -9,6 +9,7 @@ use Rattle.rules.specs.Month.{Terms, DailyTotals}
 use Rattle.rules.specs.Marks.{day_of, group_of, Judged, judged}
 use Rattle.rules.specs.declared.Rules.{Rules}
 use Rattle.rules.proofs.Codes.{severe, factor}
+use Rattle.rules.proofs.Marks.{on_place}
 
 module _ (P : Rules) (s : Terms) (c : DailyTotals) (named : (i : ℕ) → Bool) (i : ℕ) where
   abbrev j : Judged
@@ -20,13 +21,8 @@ module _ (P : Rules) (s : Terms) (c : DailyTotals) (named : (i : ℕ) → Bool) 
   abbrev B : ℕ
   B = s.benchmark (group_of i)
 
-  severe_cell : is_severe (j.verdict i).code ≡ true → (j.verdict i ≡ verdict P B 1 (c (group_of i) (day_of i)))
-  severe_cell = go on
-    where
-      go : (b : Bool) → is_severe (cond b (verdict P B 1 (c (group_of i) (day_of i))) not_judged).code ≡ true
-          → cond b (verdict P B 1 (c (group_of i) (day_of i))) not_judged ≡ verdict P B 1 (c (group_of i) (day_of i))
-      go true e = refl
-      go false e = absurd (false≢true e)
+  severe_cell : is_severe (j.verdict i).code ≡ true → j.verdict i ≡ verdict P B 1 (c (group_of i) (day_of i))
+  severe_cell e = ap (λ b. cond b (verdict P B 1 (c (group_of i) (day_of i))) not_judged) (on_place is_severe refl on _ e)
 
   module _ (e : is_severe (j.verdict i).code ≡ true) where
     tests : (ltb (P.edge1 * 1) (c (group_of i) (day_of i)).raw && (exceeds P B 1 (c (group_of i) (day_of i)) && exceeds P (P.severe * B) 1 (c (group_of i) (day_of i)))) ≡ true

@@ -1,13 +1,13 @@
 -- The automatic lines of a grouping are the first that were left in it, as many as there are waivers; so two stand before a line before which two were
 -- left, and none after it.
-use Prim.Native.Nat.{ℕ, ◌+◌, ◌-◌, ◌≤◌, ◌<◌, min}
+use Prim.Native.Nat.{ℕ, ◌≤◌, ◌<◌, min}
 use mathlib.Core.Bool.{Bool, true, false, not, ◌&&◌}
 use mathlib.Core.Path.{◌≡◌, refl, ap, ◌∙◌}
 use native.Mathlib.Omega.{arith}
 use lib.Dec.{eqb, ltb}
-use borrow.Author.Tests.{ltb-true, ltb-false, eqb-true}
+use borrow.Author.Tests.{eqb-true}
 use Rattle.wire.specs.Sums.{count}
-use Rattle.wire.proofs.Counts.{Last, last, count_rises, let_through}
+use Rattle.wire.proofs.Counts.{Last, last, count_order, let_through}
 use Rattle.rules.specs.Marks.{Judged, left, mark}
 use Rattle.rules.specs.declared.Rules.{Rules}
 use Rattle.rules.proofs.Marks.{mark_automatic}
@@ -54,13 +54,5 @@ two_before n q i h ci cn =
       b = b;
       last_is = lb;
       first_is = la;
-      before = go b lb (ltb b i) refl;
+      before = count_order q b i (omega (arith, ci, cn, lb.number));
     }
-  where
-    go : (b : ℕ) → Last n q b → (t : Bool) → ltb b i ≡ t → b < i
-    go b lb true t = ltb-true b i t
-    go b lb false t =
-        let le = ltb-false b i t in
-        let rise = count_rises i (b - i) q in
-        let there : i + (b - i) ≡ b = omega arith in
-        absurd (omega (arith, rw there at rise, ci, cn, lb.number))

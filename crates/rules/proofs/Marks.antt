@@ -1,9 +1,9 @@
 -- What one place's mark says of its code, by a table of the tests that gave the mark. A place of the grouping e has the waivers of e, since its
 -- own grouping is e; a grant names it or not; and a mark goes by the places up to its own, so judgements that agree there agree on it.
 use Prim.Native.Nat.{ℕ, ◌+◌, ◌-◌, ◌<◌}
-use mathlib.Core.Bool.{Bool, true, false, cond, not, ◌&&◌, ◌||◌}
+use mathlib.Core.Bool.{Bool, true, false, cond, not, ◌&&◌, ◌||◌, false≢true}
 use mathlib.Core.List.{[], ◌∷◌}
-use mathlib.Core.Path.{◌≡◌, refl, ap}
+use mathlib.Core.Path.{◌≡◌, refl, sym, ap, ◌∙◌}
 use native.Mathlib.Nat.{lt_trans}
 use native.Mathlib.Omega.{arith}
 use lib.Dec.{ltb, eqb}
@@ -11,9 +11,10 @@ use borrow.Author.Tests.{eqb-true}
 use Rattle.wire.specs.Choose.{choose}
 use Rattle.wire.specs.Sums.{bit, count}
 use Rattle.wire.proofs.Sums.{sum_same}
-use Rattle.rules.specs.Verdict.{is_violation, is_severe}
+use Rattle.rules.specs.Verdict.{not_judged, is_violation, is_severe}
 use Rattle.rules.specs.Marks.{Judged, left, is_billed, granted_mark, mark_without_grants, mark}
 use Rattle.rules.specs.declared.Rules.{Rules}
+use Rattle.rules.specs.declared.Verdict.{Verdict}
 
 -- a code is 4, 5 or neither: f and s are those tests
 pub data Kind : (f s : Bool) → Type 0 where
@@ -59,6 +60,11 @@ given ordinary false true true = record { none = refl; one = refl; bill = refl; 
 given ordinary false true false = record { none = refl; one = refl; bill = refl; monthly = refl; automatic = refl; granted = refl; is_1 = refl; is_2 = refl; is_3 = refl; is_4 = refl }
 given ordinary false false true = record { none = refl; one = refl; bill = refl; monthly = refl; automatic = refl; granted = refl; is_1 = refl; is_2 = refl; is_3 = refl; is_4 = refl }
 given ordinary false false false = record { none = refl; one = refl; bill = refl; monthly = refl; automatic = refl; granted = refl; is_1 = refl; is_2 = refl; is_3 = refl; is_4 = refl }
+
+-- a place whose code passes a test that 0 does not is listed and in effect (b)
+pub on_place : (test : ℕ → Bool) → test 0 ≡ false → (b : Bool) (v : Verdict) → test (cond b v not_judged).code ≡ true → b ≡ true
+on_place test z true v e = refl
+on_place test z false v e = absurd (false≢true (sym z ∙ e))
 
 -- a severe violation of the grouping e, and a waiver of it is free
 abbrev pub severe_in : Judged → (e i : ℕ) → Bool

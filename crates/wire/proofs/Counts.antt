@@ -80,6 +80,18 @@ count_before n p i h e =
     let more : count (i + 1) p ≡ count i p + 1 = sum_more i (λ k. bit (p k)) ∙ ap (λ b. count i p + bit b) e in
     omega (arith, rw there at rise, more)
 
+-- where fewer are counted the place is earlier
+pub count_order : (p : ℕ → Bool) (a b : ℕ) → count a p < count b p → a < b
+count_order p a b h = go (ltb a b) refl
+  where
+    go : (t : Bool) → ltb a b ≡ t → a < b
+    go true t = ltb-true a b t
+    go false t =
+        let le = ltb-false a b t in
+        let rise = count_rises b (a - b) p in
+        let there : b + (a - b) ≡ a = omega arith in
+        absurd (omega (arith, rw there at rise, h))
+
 -- the place before which p holds k times
 pub record Numbered (n : ℕ) (p : ℕ → Bool) (k i : ℕ) : Type 0 where
   pub inside : i < n

@@ -1,14 +1,15 @@
 -- Each mark has its case, and no mark is above 5, so that what is left is billed.
 use Rattle.std.proofs.Common.{◌≡◌, sym, ap, ◌∙◌, arith}
+use Rattle.rules.specs.Marks.{places}
 use Rattle.reason.specs.Parts.{automatic_in, two_in, marks_in}
 use Rattle.reason.proofs.ByMark.{no-violation, severe-reason, billed-reason, monthly-reason, automatic-reason, granted-reason, first_inside, second_inside}
 use Rattle.reason.proofs.firm.FirmMonth.explain.Goals as goal
 
 pub waiver-requires : goal.waiver-requires
-waiver-requires c = rw c.last_two-waivers.ensures (first_inside (automatic_in c.args.self.now c.grouping.result) 992)
+waiver-requires c = rw c.last_two-waivers.ensures (first_inside (automatic_in c.args.self.now c.grouping.result) places)
 
 pub waiver-requires-in_default : goal.waiver-requires-in_default
-waiver-requires-in_default c = rw c.last_two-waivers.ensures (second_inside (automatic_in c.args.self.now c.grouping.result) 992)
+waiver-requires-in_default c = rw c.last_two-waivers.ensures (second_inside (automatic_in c.args.self.now c.grouping.result) places)
 
 pub returns-in-0 : goal.returns-in-0
 returns-in-0 c = sym (no-violation _ _ _ _ _ _ c.in-0.is)
