@@ -1,6 +1,6 @@
 -- The Program's constants, and the verdict on totals (document 01, "The day's verdict", and document 02, 2.1 and 2.7; the Program, sections 2 to 5
--- and 8). `Rules`, `Totals`, `Sides` and `Verdict` are the structs of src/lib.rt. Totals are those of d days: a day's own for d = 1, a month's sums for its d counted
--- days (document 01, "The month").
+-- and 8). `Rules`, `Totals`, `Sides` and `Verdict` are the structs of src/lib.rt. Totals are those of d days: a day's own for d = 1, a month's sums for
+-- its d counted days (document 01, "The month").
 -- Assumes nothing.
 use Rattle.std.specs.Prelude.{ℕ, ◌+◌, ◌*◌, ◌≤◌, Bool, cond, not, ◌&&◌, ◌||◌, [], ◌∷◌, Option, Some, None, Result, Ok, Err, leb, ltb, eqb}
 use Rattle.wire.specs.Choose.{choose, all, within}
