@@ -17,7 +17,7 @@ use Rattle.wire.proofs.Lists.{length_over, length-put, drop-put, length-table, t
 use Rattle.refusals.specs.Outcome.{Outcome, refused, good, follow, given}
 use Rattle.schedule.specs.Check.{check_of}
 use Rattle.lookup.specs.declared.Layout.{Layout}
-use Rattle.schedule.proofs.Good.{refused-good}
+use Rattle.refusals.proofs.Outcomes.{refused-good}
 use Rattle.activity.specs.Activity.{day}
 use Rattle.cell.specs.Cell.{empty, cell_totals}
 use Rattle.book.specs.Book.{width, size, index, cell_at, numbers_of, with_cell, cells, check_book, open_answer, open_book}

@@ -9,12 +9,8 @@ use borrow.Author.Tests.{ltb-false, le-ltb}
 use Rattle.refusals.specs.Outcome.{Outcome, refused, good}
 use Rattle.schedule.specs.Check.{check_of}
 use Rattle.lookup.specs.declared.Layout.{Layout}
-use Rattle.schedule.proofs.Good.{refused-good}
+use Rattle.refusals.proofs.Outcomes.{refused-good, good_is}
 use Rattle.book.specs.Book.{size, check_book}
-
--- equal outcomes have equal answers
-good_is : {A : Type 0} {a b : A} → good a ≡ good b → a ≡ b
-good_is e = cc
 
 -- a book that is not refused by 1 to 8: the schedule is good, and the book has the numbers that it asks for
 pub record Sized (S : List ℕ) (numbers : ℕ) (l : Layout) : Type 0 where

@@ -31,7 +31,7 @@ use Rattle.lookup.specs.Lookup.{group_at, firm_place, firm_listed, firm_found}
 use Rattle.schedule.specs.Check.{check_of}
 use Rattle.lookup.specs.InForce.{rules_of}
 use Rattle.lookup.specs.declared.Layout.{Layout}
-use Rattle.schedule.proofs.Good.{refused-good}
+use Rattle.refusals.proofs.Outcomes.{refused-good, good_is}
 use Rattle.cell.specs.Cell.{FirmCells, cell_totals}
 use Rattle.book.specs.Book.{size, check_book, open_answer, open_book}
 use Rattle.accepted.specs.Accepted.{accepted_cells, accepted, own, of_bytes, posted}
@@ -213,10 +213,6 @@ module _ (S C : List ℕ) (l : Layout) (e : check_of S ≡ good l) where
       stated c enough =
           subst (λ (x : FirmCells). Written S after C G out l (month_of S l (cell_totals x) (named S l C G))) held
           (written S after C G out l (is_taken S after C G judged_after c) enough)
-
--- what is good is one thing
-good_is : {m n : ℕ} → good m ≡ good n → m ≡ n
-good_is e = cc
 
 -- the bytes of a firm's statement after a list
 abbrev bytes_after : (S C : List ℕ) → (rs : List (List ℕ)) → (G : List ℕ) → List ℕ

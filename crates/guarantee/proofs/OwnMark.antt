@@ -26,7 +26,8 @@ use Rattle.refusals.specs.Outcome.{Outcome, refused, good, follow}
 use Rattle.lookup.specs.Lookup.{group_at, group_is, group_listed, group_place}
 use Rattle.lookup.specs.declared.Layout.{Layout}
 use Rattle.schedule.specs.Check.{check_of}
-use Rattle.schedule.proofs.Good.{refused-good, good-schedule}
+use Rattle.refusals.proofs.Outcomes.{refused-good}
+use Rattle.schedule.proofs.Good.{good-schedule}
 use Rattle.schedule.proofs.Found.{group-own}
 use Rattle.book.proofs.Checked.{sized}
 use Rattle.grants.specs.Month.{granted_month, granted_answer}

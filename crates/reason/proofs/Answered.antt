@@ -17,7 +17,8 @@ use Rattle.refusals.specs.Outcome.{Outcome, refused, good, follow, asked}
 use Rattle.lookup.specs.Lookup.{group_is, group_listed, group_place}
 use Rattle.lookup.specs.declared.Layout.{Layout}
 use Rattle.schedule.specs.Check.{check_of}
-use Rattle.schedule.proofs.Good.{refused-good, good-schedule}
+use Rattle.refusals.proofs.Outcomes.{refused-good}
+use Rattle.schedule.proofs.Good.{good-schedule}
 use Rattle.schedule.proofs.Found.{group-code}
 use Rattle.book.specs.Book.{check_book}
 use Rattle.book.proofs.Checked.{sized}

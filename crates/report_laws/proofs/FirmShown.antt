@@ -20,7 +20,7 @@ use Rattle.refusals.specs.Outcome.{refused, good}
 use Rattle.lookup.specs.Lookup.{firm_is, firm_listed}
 use Rattle.lookup.specs.InForce.{rules_of}
 use Rattle.lookup.specs.declared.Layout.{Layout}
-use Rattle.schedule.proofs.Good.{refused-good}
+use Rattle.refusals.proofs.Outcomes.{refused-good}
 use Rattle.book.specs.Book.{check_book, open_answer, open_book}
 use Rattle.accepted.specs.Accepted.{of_bytes, posted}
 use Rattle.book.proofs.Checked.{sized}

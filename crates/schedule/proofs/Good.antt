@@ -20,6 +20,7 @@ use Rattle.records.proofs.Parts.{code-letters}
 use Rattle.contracts.specs.Listing.{contracts_ok, listed}
 use Rattle.records.specs.declared.fields.Firm.{Firm}
 use Rattle.refusals.specs.Outcome.{Outcome, refused, good, follow, asked}
+use Rattle.refusals.proofs.Outcomes.{refused-good}
 use Rattle.lookup.specs.Lookup.{group_start, firm_start, group_is, firm_is, group_listed, firm_listed}
 use Rattle.schedule.specs.Check.{kind_here, is_due, length_ok, fields_ok, is_repeated, header_causes, body_causes, cause, with_record, after, ending, Fine, scan, begin, check_of}
 use Rattle.schedule.specs.Good.{Once, GroupStands, FirmStands, GoodSchedule, Numbered}
@@ -30,9 +31,6 @@ use Rattle.schedule.specs.declared.scan.Kind.TheVariants as kind
 use Rattle.schedule.proofs.Numbers.{HasNumber, kind_number}
 use Rattle.lookup.proofs.Laws.{group_next, group-first}
 use Rattle.schedule.proofs.Turns.{taken, accepted, scan_end, scan_refused, scan_next}
-
-pub refused-good : {A : Type 0} {n o : ℕ} {a : A} → refused n o ≡ good a → ⊥
-refused-good e = let z : ◌≡◌ {A = ℕ} 0 1 = cc in omega arith
 
 -- what is good after causes were asked of it was good before
 pub asked-good : {A : Type 0} (causes : A → List (Bool × ℕ)) (x : Outcome A) {a : A} → follow x (λ k. asked (causes k) (good k)) ≡ good a → x ≡ good a

@@ -17,7 +17,7 @@ use Rattle.refusals.specs.Outcome.{Outcome, refused, good}
 use Rattle.lookup.specs.Lookup.{firm_place}
 use Rattle.lookup.specs.InForce.{rules_of}
 use Rattle.lookup.specs.declared.Layout.{Layout}
-use Rattle.schedule.proofs.Good.{refused-good}
+use Rattle.refusals.proofs.Outcomes.{refused-good}
 use Rattle.month.specs.Month.{month_of_firm, HeldMonth}
 use Rattle.grants.specs.Grants.{named}
 use Rattle.grants.specs.Month.{granted_month, granted_answer, GrantedIs}
