@@ -56,6 +56,8 @@ number_of cause.ImpossibleMinimum = 33
 -- 2.6: a statement's grants
 number_of cause.MalformedGrant = 34
 number_of cause.NoSuchCell = 35
+-- 2.8: a window's numbers, and its new day's
+number_of cause.BadWindow = 36
 
 -- Numbers of refusal, from 8 on: a cause has the offset 0
 abbrev pub at_front : Cause → Refusal

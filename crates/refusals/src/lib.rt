@@ -6,7 +6,7 @@ ghost use Rattle.refusals.specs.Outcome.{number_of, refusal_text, at_front};
 
 use std::fmt;
 
-// The causes of refusal of every call that takes a schedule, by their numbers.
+// The causes of refusal of all calls but the verdicts, by their numbers.
 #[derive(Clone, Copy, Debug, PartialEq, Eq)]
 pub enum Cause {
     // Of a schedule's record: one to three bytes left, or its length past the end.
@@ -55,6 +55,9 @@ pub enum Cause {
     MalformedGrant,
     // Its firm or group is unlisted, or its day is not in the month.
     NoSuchCell,
+    // Of a window and its new day: a total of the new day or of a day held is above the limit, the window holds more than twenty days, or
+    // its oldest's place is above 19.
+    BadWindow,
 }
 
 impl Cause {
@@ -87,6 +90,7 @@ impl Cause {
             Cause::ImpossibleMinimum => 33,
             Cause::MalformedGrant => 34,
             Cause::NoSuchCell => 35,
+            Cause::BadWindow => 36,
         }
     }
 }

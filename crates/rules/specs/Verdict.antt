@@ -77,7 +77,7 @@ is_violation code = eqb code 4 || eqb code 5
 abbrev pub is_severe : ℕ → Bool
 is_severe code = eqb code 5
 
--- Numbers of refusal, 18, 22 and 24: the greatest total of a cell
+-- Numbers of refusal, 18, 22, 24 and 36: the greatest total of a cell
 abbrev pub limit : ℕ
 limit = 10000000000
 

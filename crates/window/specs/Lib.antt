@@ -1,0 +1,4 @@
+pub mod Window
+pub mod Parts
+pub mod Laws
+pub mod Example
