@@ -3,10 +3,11 @@ use book::Effect;
 use month::MonthSums;
 use reason::{Explanation, Waiver};
 use refusals::Refusal;
-use rules::Sides;
+use rules::{Sides, Totals};
 use script::{digest_of, put_hex};
 use statement::LARGEST;
 use std::io;
+use window::{DAYS, Pushed, Window, WindowSums};
 
 // What cannot be written is dropped: the second implementation's answers show what is missing.
 pub(crate) fn say(written: io::Result<()>) {
@@ -88,6 +89,37 @@ pub(crate) fn print_reason(rt: &impl Print, answer: Result<Explanation, Refusal>
         Ok(explanation) => print_explanation(rt, explanation),
     }
     say(println!(rt; ""));
+}
+
+// The word of a window, and R, S, V and n behind it.
+fn print_window(rt: &impl Print, sums: WindowSums) {
+    let Totals { raw, score, lots } = sums.totals;
+    let days = sums.days;
+    say(print!(rt; "window {raw} {score} {lots} {days}"));
+}
+
+// The numbers of a window in the order in which its digest takes them: the lists, the count, the oldest's place.
+fn numbers_of(window: &Window) -> [u64; 3 * DAYS + 2] {
+    let ends = [window.count, window.oldest];
+    let lists = window.raw.iter().chain(&window.score).chain(&window.lots);
+    let mut numbers = [0; 3 * DAYS + 2];
+    for (to, from) in numbers.iter_mut().zip(lists.chain(&ends)) {
+        *to = *from;
+    }
+    numbers
+}
+
+// What a new day of a window answered, and the digest of the window's numbers: after a refusal too, so that a change of it can be seen.
+pub(crate) fn print_pushed(rt: &impl Print, pushed: Pushed) {
+    match pushed.answer {
+        Err(cause) => {
+            let refusal = Refusal::from(cause);
+            say(print!(rt; "{refusal}"));
+        }
+        Ok(sums) => print_window(rt, sums),
+    }
+    let digest = digest_of(&numbers_of(&pushed.window));
+    say(println!(rt; " {digest}"));
 }
 
 // The panel's number of a verdict.

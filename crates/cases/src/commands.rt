@@ -4,6 +4,7 @@ ghost use Rattle.std.specs.Iterator.{at_most};
 ghost use Rattle.script.specs.Script.{past_in};
 
 use crate::stop::Stop;
+use rules::Totals;
 use script::Script;
 
 // A command, with its operands.
@@ -37,6 +38,17 @@ pub(crate) enum Command<'a> {
         day: u8,
         group: &'a [u8],
     },
+    // N: a new window.
+    Window,
+    // U: one number of the window: of the list 0 raw, 1 score or 2 lots at a place, or 3 the count or 4 the oldest's place, whatever
+    // the place.
+    WriteWindow {
+        list: u8,
+        place: usize,
+        number: u64,
+    },
+    // Q: a new day of the window.
+    Push(Totals),
     // V: the verdict on a day's raw count, score, lots and benchmark.
     Verdict {
         raw: u64,
@@ -74,6 +86,17 @@ fn read_command<'a>(script: &mut Script<'a>) -> Result<Command<'a>, Stop>
             day: script.byte(),
             group: script.piece(),
         },
+        b'N' => Command::Window,
+        b'U' => Command::WriteWindow {
+            list: script.byte(),
+            place: usize::from(script.byte()),
+            number: script.u64(),
+        },
+        b'Q' => Command::Push(Totals {
+            raw: script.u64(),
+            score: script.u64(),
+            lots: script.u64(),
+        }),
         b'V' => Command::Verdict {
             raw: script.u64(),
             score: script.u64(),
