@@ -4,10 +4,13 @@
 ghost use Rattle.std.specs.Prelude.{◌≡◌};
 ghost use Rattle.records.specs.Bodies.{rest_at, body_at};
 ghost use Rattle.records.specs.Fields.{group_fields, firm_fields};
-ghost use Rattle.lookup.specs.InForce.{rules_of};
+ghost use Rattle.lookup.specs.InForce.{has_constants, rules_of};
 ghost use Rattle.lookup.specs.Lookup.{firm_start, group_has, group_found, firm_found};
 
-use records::{FIRM_SIZE, Firm, Group, body_at, firm_fields, group_fields, has_code, rest_at};
+use records::{
+    CONSTANTS_KIND, FIRM_SIZE, Firm, Group, HEAD_SIZE, body_at, constants_fields, firm_fields,
+    group_fields, has_code, rest_at,
+};
 use rules::{Rules, version96};
 use wire::u16_at;
 
@@ -86,10 +89,21 @@ pub fn group_at(schedule: &[u8], at: usize) -> Group
     group_fields(body_at(schedule, at))
 }
 
-// The Program's constants that hold for a schedule's month. They are version 9.6's whatever the schedule says; it is an argument since the
-// contract names them by it.
+// A record of constants stands directly after the head.
+fn has_constants(schedule: &[u8]) -> bool
+    ensures { result ≡ has_constants schedule.now }
+{
+    u16_at(schedule, HEAD_SIZE + 2) == CONSTANTS_KIND
+}
+
+// The Program's constants that hold for a schedule's month: its own, or else version 9.6's.
+#[tactic(auto, unfolding(crate::specs::InForce::rules_of))]
 pub fn rules_of(schedule: &[u8]) -> Rules
     ensures { result ≡ rules_of schedule.now }
 {
-    version96()
+    if has_constants(schedule) {
+        constants_fields(body_at(schedule, HEAD_SIZE))
+    } else {
+        version96()
+    }
 }

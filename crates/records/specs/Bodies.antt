@@ -1,4 +1,4 @@
--- A record's length, kind and body, and the kinds and lengths of a schedule's records (document 01, "Records").
+-- A record's length, kind and body, and the kinds and lengths of a schedule's records (document 01, "Records", and document 02, 2.9).
 -- Assumes nothing.
 use Rattle.std.specs.Prelude.{ℕ, ◌+◌, ◌-◌, List, take, drop}
 use Rattle.wire.specs.Bytes.{u16_at}
@@ -23,6 +23,10 @@ body_at S at = take (length_at S at - 4) (rest_at S at)
 abbrev pub head_kind : ℕ
 head_kind = 1
 
+-- 2.9: kind 6, the Program's constants
+abbrev pub constants_kind : ℕ
+constants_kind = 6
+
 -- Records: kind 2, a group
 abbrev pub group_kind : ℕ
 group_kind = 2
@@ -34,6 +38,10 @@ firm_kind = 3
 -- Records, kind 1: head, 10 bytes
 abbrev pub head_size : ℕ
 head_size = 10
+
+-- 2.9, kind 6: constants, 28 bytes
+abbrev pub constants_size : ℕ
+constants_size = 28
 
 -- Records, kind 2: group, 16 + 2n with n 1 to 64: the smallest
 abbrev pub least_group : ℕ

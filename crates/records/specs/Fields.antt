@@ -1,4 +1,4 @@
--- The fields of heads, groups and firms, with their ranges (document 01, "Records").
+-- The fields of heads, constants, groups and firms, with their ranges (document 01, "Records", and document 02, 2.9).
 -- B is a record's body, which starts after length and kind: offsets in it are document 01's less 4.
 -- Assumes nothing.
 use Rattle.std.specs.Prelude.{ℕ, ◌/◌, ◌^◌, Bool, ◌||◌, List, [], ◌∷◌, eqb, length, get_or}
@@ -8,6 +8,7 @@ use Rattle.wire.specs.Bytes.{u16_at, u32_at}
 use Rattle.wire.specs.Choose.{all, within}
 use Rattle.calendar.specs.Calendar.{is_month, days_in}
 use Rattle.rules.specs.Verdict.{is_benchmark}
+use Rattle.rules.specs.declared.Rules.{Rules}
 use Rattle.records.specs.declared.fields.Head.{Head}
 use Rattle.records.specs.declared.fields.Group.{Group}
 use Rattle.records.specs.declared.fields.Firm.{Firm}
@@ -19,6 +20,22 @@ head_fields B = record { month = u16_at B 0; closed = u32_at B 2 }
 -- Records: a month number; bits past the month's end are zero
 unfoldable pub head_ok : Head → Bool
 head_ok h = all (is_month h.month ∷ eqb (h.closed / 2 ^ days_in h.month) 0 ∷ [])
+
+-- 2.9, kind 6: three raw edges, u32 at 4, 8 and 12; as u16 the three factors of the tiers from low to high at 16, 18 and 20, the severe multiple at 22,
+-- automatic waivers at 24 and dollars at 26. Their ranges and their order: rules/specs/Constants.antt
+unfoldable pub constants_fields : (B : List ℕ) → Rules
+constants_fields B =
+    record {
+      edge1 = u32_at B 0;
+      edge2 = u32_at B 4;
+      edge3 = u32_at B 8;
+      factor1 = u16_at B 12;
+      factor2 = u16_at B 14;
+      factor3 = u16_at B 16;
+      severe = u16_at B 18;
+      waivers = u16_at B 20;
+      dollars = u16_at B 22;
+    }
 
 -- Records, kind 2: code at 4; grouping at 6; k at 7; B u32 at 8; front mask u16 at 12; extra mask u16 at 14
 unfoldable pub group_fields : (B : List ℕ) → Group

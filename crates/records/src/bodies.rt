@@ -4,15 +4,19 @@ ghost use Rattle.records.specs.Bodies.{rest_at, body_at};
 
 use wire::{tail, u16_at};
 
-// The kinds of a head, a group and a firm.
+// The kinds of a head, of constants, of a group and of a firm.
 pub const HEAD_KIND: u16 = 1;
+
+pub const CONSTANTS_KIND: u16 = 6;
 
 pub const GROUP_KIND: u16 = 2;
 
 pub const FIRM_KIND: u16 = 3;
 
-// The bytes of a head, of the smallest and the largest group, and of a firm.
+// The bytes of a head, of constants, of the smallest and the largest group, and of a firm.
 pub const HEAD_SIZE: usize = 10;
+
+pub const CONSTANTS_SIZE: usize = 28;
 
 pub const GROUP_LEAST: usize = 18;
 

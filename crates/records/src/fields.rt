@@ -1,10 +1,10 @@
 // The fields of a record's body, which starts after length and kind, and their ranges.
 ghost use Rattle.std.specs.Prelude.{◌≡◌};
-ghost use Rattle.records.specs.Fields.{is_letter, are_letters, head_fields, head_ok, firm_fields, firm_ok, has_code};
+ghost use Rattle.records.specs.Fields.{is_letter, are_letters, head_fields, head_ok, constants_fields, firm_fields, firm_ok, has_code};
 ghost use Rattle.records.specs.Fields.{group_fields, group_in_range};
 
 use calendar::{days_in, is_month};
-use rules::is_benchmark;
+use rules::{Rules, is_benchmark};
 use wire::{byte_at, bytes_at, u16_at, u32_at};
 
 // A head's fields: the month's number, and the days that are not in effect.
@@ -50,6 +50,24 @@ pub fn head_ok(head: Head) -> bool
 {
     let days = days_in(head.month);
     is_month(head.month) & (head.closed >> days == 0)
+}
+
+// The Program's constants as they stand in their record's body.
+#[tactic(auto, unfolding(crate::specs::Fields::constants_fields))]
+pub fn constants_fields(body: &[u8]) -> Rules
+    ensures { result ≡ constants_fields body.now }
+{
+    Rules {
+        edge1: u32_at(body, 0),
+        edge2: u32_at(body, 4),
+        edge3: u32_at(body, 8),
+        factor1: u16_at(body, 12),
+        factor2: u16_at(body, 14),
+        factor3: u16_at(body, 16),
+        severe: u16_at(body, 18),
+        waivers: u16_at(body, 20),
+        dollars: u16_at(body, 22),
+    }
 }
 
 // A letter of a code: A to Z, or 0 to 9.

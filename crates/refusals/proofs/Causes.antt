@@ -30,6 +30,8 @@ above_0 cause.ImpossibleMinimum = lit< tt
 above_0 cause.MalformedGrant = lit< tt
 above_0 cause.NoSuchCell = lit< tt
 above_0 cause.BadWindow = lit< tt
+above_0 cause.BadConstant = lit< tt
+above_0 cause.ConstantsOutOfOrder = lit< tt
 
 pub not_0 : (c : Cause) → number_of c ≡ 0 → ⊥
 not_0 c e = omega (arith, above_0 c)

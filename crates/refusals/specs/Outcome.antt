@@ -58,8 +58,11 @@ number_of cause.MalformedGrant = 34
 number_of cause.NoSuchCell = 35
 -- 2.8: a window's numbers, and its new day's
 number_of cause.BadWindow = 36
+-- 2.9: a schedule's constants
+number_of cause.BadConstant = 37
+number_of cause.ConstantsOutOfOrder = 38
 
--- Numbers of refusal, from 8 on: a cause has the offset 0
+-- Numbers of refusal, from 8 on: a cause has the offset 0 (2.9: but for 37 and 38, which are asked of a schedule's record)
 abbrev pub at_front : Cause → Refusal
 at_front c = record { cause = c; offset = 0 }
 

@@ -55,6 +55,10 @@ pub enum Cause {
     MalformedGrant,
     // Its firm or group is unlisted, or its day is not in the month.
     NoSuchCell,
+    // Of a schedule's constants: one is outside its range.
+    BadConstant,
+    // The edges don't rise strictly, or a factor is above the one before it.
+    ConstantsOutOfOrder,
     // Of a window and its new day: a total of the new day or of a day held is above the limit, the window holds more than twenty days, or
     // its oldest's place is above 19.
     BadWindow,
@@ -91,12 +95,14 @@ impl Cause {
             Cause::MalformedGrant => 34,
             Cause::NoSuchCell => 35,
             Cause::BadWindow => 36,
+            Cause::BadConstant => 37,
+            Cause::ConstantsOutOfOrder => 38,
         }
     }
 }
 
 // A cause, and an offset in the schedule: that of the record that it is about, the schedule's length where something is missing at the
-// end, and 0 from 8 on.
+// end, and 0 of a cause that is about no record of the schedule.
 #[derive(Clone, Copy, Debug, PartialEq, Eq)]
 pub struct Refusal {
     pub cause: Cause,

@@ -13,8 +13,9 @@ use Rattle.std.specs.Cmp.{first_so, second_so}
 use Rattle.wire.proofs.Bools.{cond_le, ltb-leb, range}
 use Rattle.wire.proofs.Choose.{chosen, next, done, each}
 use Rattle.wire.proofs.Implies.{◌⇒◌, not-⇒, and-⇒, leb-⇒, cond_rises}
-use Rattle.rules.specs.Verdict.{version96, not_judged, Falling, tier_factor, exceeds, verdict, is_violation, is_severe, limit, fits, is_benchmark, is_refused, decided, days_verdict, number_of}
-use Rattle.rules.specs.Bounds.{Lawful, Bounded}
+use Rattle.rules.specs.Verdict.{version96, not_judged, tier_factor, exceeds, verdict, is_violation, is_severe, limit, fits, is_benchmark, is_refused, decided, days_verdict, number_of}
+use Rattle.rules.specs.Constants.{Falling, clamped}
+use Rattle.rules.specs.Bounds.{SmallFactors, Bounded}
 use Rattle.rules.specs.Month.{is_exempt}
 use Rattle.rules.specs.Laws.{read_back}
 use Rattle.rules.specs.declared.Rules.{Rules}
@@ -109,22 +110,22 @@ fitting d t e =
     record { raw = leb-true _ _ h.0; score = leb-true _ _ h.1.0; lots = leb-true _ _ h.1.1.0 }
 
 -- where nothing is refused there is a verdict
-pub days-decided : (d : ℕ) (t : Totals) (B : ℕ) → d ≤ 31 → fits d t ≡ true → is_benchmark B ≡ true
-    → days_verdict d t B ≡ decided (verdict version96 B d t)
+pub days-decided : (P : Rules) (d : ℕ) (t : Totals) (B : ℕ) → d ≤ 31 → fits d t ≡ true → is_benchmark B ≡ true
+    → days_verdict P d t B ≡ decided (verdict P B d t)
 unfolding days_verdict
-days-decided d t B h f w = chosen (next (le-ltb 31 d h) (next (rw (f, w)) done))
+days-decided P d t B h f w = chosen (next (le-ltb 31 d h) (next (rw (f, w)) done))
 
--- version 9.6's numbers are small
-pub lawful96 : Lawful version96
-lawful96 = omega arith
+-- what any set judges by is small
+small : (P : Rules) → SmallFactors (clamped P)
+small P = omega arith
 
 -- what 24 does not refuse keeps every product small
-pub bounded : (d : ℕ) (t : Totals) (B : ℕ) → d ≤ 31 → is_refused d t B ≡ false → Bounded version96 B d t
-bounded d t B h e =
+pub bounded : (P : Rules) (d : ℕ) (t : Totals) (B : ℕ) → d ≤ 31 → is_refused d t B ≡ false → Bounded (clamped P) B d t
+bounded P d t B h e =
     let both = not-false (fits d t && is_benchmark B) e in
     let f = fitting d t (first_so (fits d t) (is_benchmark B) both) in
     let b = range 1 100000 B (second_so (fits d t) (is_benchmark B) both) in
-    record { lawful = lawful96; benchmark = b.most; days = h; score = omega (arith, f.score); lots = omega (arith, f.lots) }
+    record { small = small P; benchmark = b.most; days = h; score = omega (arith, f.score); lots = omega (arith, f.lots) }
 
 -- the totals t' of d' days against t of d: t' keeps to whatever raw edge of a day t kept to
 pub record Eased (d' : ℕ) (t' : Totals) (d : ℕ) (t : Totals) : Type 0 where

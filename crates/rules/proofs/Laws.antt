@@ -1,14 +1,17 @@
--- The laws of the rules, each from the file that proves it; version 9.6's factors, which fall; and what the panel's number tells, refused or not.
-use Prim.Native.Nat.{ℕ}
+-- The laws of the rules, each from the file that proves it; what every lawful set keeps; and what the panel's number tells, refused or not.
+use Prim.Native.Nat.{ℕ, min}
 use mathlib.Core.Bool.{Bool, true, false, cond}
 use mathlib.Core.Path.{◌≡◌, refl, sym, ap}
 use native.Mathlib.Omega.{arith}
 use lib.Dec.{eqb}
-use borrow.Author.Tests.{ne_eqb}
-use Rattle.wire.specs.Choose.{choose}
+use borrow.Author.Tests.{ne_eqb, leb-true}
+use Rattle.wire.specs.Choose.{choose, all, within}
+use Rattle.wire.proofs.Bools.{range}
+use Rattle.wire.proofs.Choose.{each}
 use Rattle.wire.proofs.Implies.{follows}
-use Rattle.rules.specs.Verdict.{Falling, version96, verdict, is_refused, decided, refusal, days_verdict, number_of, panel_number}
-use Rattle.rules.specs.Laws.{Laws, read_back, Panel}
+use Rattle.rules.specs.Verdict.{version96, verdict, is_refused, decided, refusal, days_verdict, number_of, panel_number}
+use Rattle.rules.specs.Constants.{in_range, in_order, is_lawful, Falling}
+use Rattle.rules.specs.Laws.{Laws, LawfulSets, read_back, Panel}
 use Rattle.rules.specs.declared.Rules.{Rules}
 use Rattle.rules.specs.declared.Totals.{Totals}
 use Rattle.rules.proofs.Codes.{fails, severe, factor, violation_falls, severe_falls, never_24, pair}
@@ -31,8 +34,27 @@ laws P F =
       dollars = dollars P;
     }
 
-pub falling96 : Falling version96
-falling96 = omega arith
+
+-- a number within a range is not above its end
+least_is : (lo hi x : ℕ) → within lo hi x ≡ true → min x hi ≡ x
+least_is lo hi x e = let r = range lo hi x e in omega (arith, r.most)
+
+lawful96 : is_lawful version96 ≡ true
+unfolding in_range in_order all
+lawful96 = refl
+
+pub lawful_sets : LawfulSets
+unfolding in_range in_order
+lawful_sets =
+    record {
+      as_it_is =
+          λ P e.
+          let h = each _ e in
+          let f = h.1.1.1 in
+          rw (least_is 1 10 P.factor1 f.0, least_is 1 10 P.factor2 f.1.0, least_is 1 10 P.factor3 f.1.1.0, least_is 1 20 P.severe f.1.1.1.0) refl;
+      falls = λ P e. let h = each _ e in record { second = leb-true _ _ h.1.1.0; third = leb-true _ _ h.1.1.1.0 };
+      of_96 = lawful96;
+    }
 
 only_refused : (t : Totals) (B : ℕ) → eqb (panel_number t B) 24 ≡ is_refused 1 t B
 unfolding panel_number
@@ -42,7 +64,7 @@ only_refused t B = go (is_refused 1 t B)
     go true = refl
     go false = ne_eqb _ _ (never_24 B 1 t)
 
-one_day : (t : Totals) (B : ℕ) → days_verdict 1 t B ≡ cond (is_refused 1 t B) (refusal (panel_number t B)) (decided (read_back (panel_number t B)))
+one_day : (t : Totals) (B : ℕ) → days_verdict version96 1 t B ≡ cond (is_refused 1 t B) (refusal (panel_number t B)) (decided (read_back (panel_number t B)))
 unfolding days_verdict panel_number choose
 one_day t B = go (is_refused 1 t B)
   where

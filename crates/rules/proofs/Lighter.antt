@@ -12,7 +12,8 @@ use Rattle.std.specs.Cmp.{first_so, second_so}
 use Rattle.wire.proofs.Bools.{cond_where}
 use Rattle.wire.proofs.Implies.{◌⇒◌, not-⇒, and-⇒, leb-⇒}
 use Rattle.wire.proofs.Sums.{sum_le}
-use Rattle.rules.specs.Verdict.{not_judged, Falling, is_violation, is_severe}
+use Rattle.rules.specs.Verdict.{not_judged, is_violation, is_severe}
+use Rattle.rules.specs.Constants.{Falling}
 use Rattle.rules.specs.Month.{Terms, DailyTotals, counted, over_counted, days, sums, exempt}
 use Rattle.rules.specs.Marks.{day_of, group_of, judged, amount}
 use Rattle.rules.specs.Lighter.{Lighter, LighterMonth, NoSevereNamed}

@@ -5,11 +5,8 @@ use Rattle.rules.specs.Verdict.{limit}
 use Rattle.rules.specs.declared.Rules.{Rules}
 use Rattle.rules.specs.declared.Totals.{Totals}
 
--- a set of constants whose edges, factors and severe multiple are small
-pub record Lawful (P : Rules) : Type 0 where
-  pub edge1 : P.edge1 ≤ 1000000
-  pub edge2 : P.edge2 ≤ 1000000
-  pub edge3 : P.edge3 ≤ 1000000
+-- a set of constants whose factors and severe multiple are small
+pub record SmallFactors (P : Rules) : Type 0 where
   pub factor1 : P.factor1 ≤ 10
   pub factor2 : P.factor2 ≤ 10
   pub factor3 : P.factor3 ≤ 10
@@ -17,7 +14,7 @@ pub record Lawful (P : Rules) : Type 0 where
 
 -- such a set, a benchmark in range, and the totals of at most 31 days, each within its limit
 pub record Bounded (P : Rules) (B d : ℕ) (t : Totals) : Type 0 where
-  pub lawful : Lawful P
+  pub small : SmallFactors P
   pub benchmark : B ≤ 100000
   pub days : d ≤ 31
   pub score : t.score ≤ limit * 31

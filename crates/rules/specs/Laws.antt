@@ -1,7 +1,9 @@
--- What follows from the rules, whatever the constants, if their factors do not grow with the tier; and, last, what the panel's number tells.
+-- What follows from the rules, whatever the constants, if their factors do not grow with the tier; which sets of constants are so; and, last, what the panel's
+-- number tells.
 -- Proved in proofs/Laws.antt.
 -- Assumes nothing.
 use Rattle.std.specs.Prelude.{ℕ, ◌+◌, ◌*◌, ◌/◌, ◌%◌, ◌≤◌, ◌<◌, Bool, true, cond, ◌&&◌, ◌≡◌, ltb, eqb}
+use Rattle.rules.specs.Constants.{in_range, in_order, is_lawful, Falling, clamped}
 use Rattle.rules.specs.Verdict.{version96, tier_factor, exceeds, verdict, is_violation, is_severe, is_refused, decided, refusal, days_verdict, number_of, panel_number}
 use Rattle.rules.specs.Month.{Terms, DailyTotals, exempt}
 use Rattle.rules.specs.Marks.{Judged, judged, violations, mark_without_grants, mark, marked, billed, amount}
@@ -36,6 +38,12 @@ pub record Laws (P : Rules) : Type 0 where
   -- and the amount is that of the billed
   pub dollars : (j : Judged) (e : ℕ) → amount P j e ≡ P.dollars * billed P j e
 
+-- 2.9: every lawful set judges as it stands, and keeps what the laws ask of it; version 9.6's numbers are one
+pub record LawfulSets : Type 0 where
+  pub as_it_is : (P : Rules) → in_range P ≡ true → clamped P ≡ P
+  pub falls : (P : Rules) → in_order P ≡ true → Falling P
+  pub of_96 : is_lawful version96 ≡ true
+
 -- the verdict that is read back from the panel's number
 abbrev pub read_back : (n : ℕ) → Verdict
 read_back n = record { code = n / 10; factor = n % 10 }
@@ -48,4 +56,4 @@ pub record Panel : Type 0 where
   -- so the panel's number is 24 where the day is refused, and nowhere else
   pub refused : (t : Totals) (B : ℕ) → eqb (panel_number t B) 24 ≡ is_refused 1 t B
   -- one day is never too many: the verdict on one day is read back from the panel's number
-  pub one_day : (t : Totals) (B : ℕ) → days_verdict 1 t B ≡ cond (is_refused 1 t B) (refusal (panel_number t B)) (decided (read_back (panel_number t B)))
+  pub one_day : (t : Totals) (B : ℕ) → days_verdict version96 1 t B ≡ cond (is_refused 1 t B) (refusal (panel_number t B)) (decided (read_back (panel_number t B)))

@@ -1,4 +1,5 @@
 pub mod Verdict
+pub mod Constants
 pub mod Month
 pub mod Marks
 pub mod Lighter

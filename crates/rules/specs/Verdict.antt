@@ -2,7 +2,7 @@
 -- and 8). `Rules`, `Totals`, `Sides` and `Verdict` are the structs of src/lib.rt. Totals are those of d days: a day's own for d = 1, a month's sums for
 -- its d counted days (document 01, "The month").
 -- Assumes nothing.
-use Rattle.std.specs.Prelude.{ℕ, ◌+◌, ◌*◌, ◌≤◌, Bool, cond, not, ◌&&◌, ◌||◌, [], ◌∷◌, Option, Some, None, Result, Ok, Err, leb, ltb, eqb}
+use Rattle.std.specs.Prelude.{ℕ, ◌+◌, ◌*◌, Bool, cond, not, ◌&&◌, ◌||◌, [], ◌∷◌, Option, Some, None, Result, Ok, Err, leb, ltb, eqb}
 use Rattle.wire.specs.Choose.{choose, all, within}
 use Rattle.rules.specs.declared.Rules.{Rules}
 use Rattle.rules.specs.declared.Totals.{Totals}
@@ -29,11 +29,6 @@ version96 =
 -- 2.1: the verdict where nothing is judged, as where raw is 20,000 or fewer: code 0, m 0
 abbrev pub not_judged : Verdict
 not_judged = record { code = 0; factor = 0 }
-
--- factors do not grow with the tier: all that the laws ask of a set of constants
-pub record Falling (P : Rules) : Type 0 where
-  pub second : P.factor2 ≤ P.factor1
-  pub third : P.factor3 ≤ P.factor2
 
 module _ (P : Rules) where
   -- The month: a, b or c by a raw count against the second and the third edge of d days ("at or below: 3, 2; else 1")
@@ -106,17 +101,18 @@ days_meaning (Err none.Refused) = refusal 24
 days_meaning (Err none.TooManyDays) = too_many_days
 
 -- the verdict on the totals of d days, top to bottom
-unfoldable pub days_verdict : (d : ℕ) → Totals → (B : ℕ) → Judgement
-days_verdict d t B = choose ((ltb 31 d, too_many_days) ∷ (is_refused d t B, refusal 24) ∷ []) (decided (verdict version96 B d t))
+unfoldable pub days_verdict : Rules → (d : ℕ) → Totals → (B : ℕ) → Judgement
+days_verdict P d t B = choose ((ltb 31 d, too_many_days) ∷ (is_refused d t B, refusal 24) ∷ []) (decided (verdict P B d t))
 
 -- 2.1: the panel's number of a verdict is 10 × code + m
 abbrev pub number_of : Verdict → ℕ
 number_of v = 10 * v.code + v.factor
 
--- The day's verdict, which takes raw, score, lots and B as numbers: the panel's number of a day; 24 still means refused
+-- The day's verdict, which takes raw, score, lots and B as numbers: the panel's number of a day; 24 still means refused. 2.9: the verdict called alone by
+-- the panel keeps version 9.6's
 unfoldable pub panel_number : Totals → (B : ℕ) → ℕ
 panel_number t B = cond (is_refused 1 t B) 24 (number_of (verdict version96 B 1 t))
 
 -- 2.7: the sides of a day's six-times comparison, where 24 does not refuse the day
-unfoldable pub day_sides : Totals → (B : ℕ) → Option Sides
-day_sides t B = cond (is_refused 1 t B) None (Some (severe_sides version96 B 1 t))
+unfoldable pub day_sides : Rules → Totals → (B : ℕ) → Option Sides
+day_sides P t B = cond (is_refused 1 t B) None (Some (severe_sides P B 1 t))
