@@ -1,6 +1,6 @@
 -- A good schedule holds what specs/Good.antt says: each accepted record keeps it, so it holds where the scan ends.
 use Prim.Native.Nat.{ℕ, zero, suc, ◌+◌, ◌-◌, ◌*◌, ◌%◌, ◌≤◌, ◌<◌}
-use mathlib.Core.Bool.{Bool, true, false, cond, not, false≢true}
+use mathlib.Core.Bool.{Bool, true, false, cond, not, ◌||◌, false≢true}
 use mathlib.Core.List.{List, ◌++◌}
 use mathlib.Core.Path.{◌≡◌, refl, sym, ◌∙◌, subst}
 use native.Mathlib.Omega.{arith}
@@ -8,22 +8,26 @@ use lib.Dec.{eqb, leb}
 use lib.ListN.{length, get_or, length-take, length-drop}
 use lib.Seq.{get_or-take}
 use borrow.Author.Count.{below_more}
-use borrow.Author.Tests.{leb-false, leb-true, eqb-true, eqb-false, eq-eqb, not-true}
+use borrow.Author.Tests.{leb-false, leb-true, eqb-true, eqb-false, eq-eqb, ne_eqb, not-true}
 use Rattle.std.proofs.lemmas.Slice.Eq.{bytes_eq-Decides}
 use Rattle.wire.specs.Choose.{choose, within}
 use Rattle.std.specs.Cmp.{first_so, second_so}
-use Rattle.wire.proofs.Bools.{range, in_range}
+use Rattle.wire.proofs.Bools.{range, in_range as is-within}
 use Rattle.wire.proofs.Choose.{here, next, done, chosen, none_at, choose_most, every}
-use Rattle.records.specs.Bodies.{length_at, kind_at, rest_at, body_at, head_size, least_group, largest_group, firm_size}
-use Rattle.records.specs.Fields.{head_fields, head_ok, group_fields, group_in_range, firm_fields, has_code}
+use Rattle.records.specs.Bodies.{length_at, kind_at, rest_at, body_at, head_size, constants_size, least_group, largest_group, group_kind, firm_size}
+use Rattle.rules.specs.Verdict.{version96}
+use Rattle.rules.specs.Constants.{in_range, in_order}
+use Rattle.rules.proofs.Laws.{lawful_sets}
+use Rattle.records.specs.Fields.{head_fields, head_ok, constants_fields, group_fields, group_in_range, firm_fields, has_code}
 use Rattle.records.proofs.Parts.{code-letters}
 use Rattle.contracts.specs.Listing.{contracts_ok, listed}
 use Rattle.records.specs.declared.fields.Firm.{Firm}
 use Rattle.refusals.specs.Outcome.{Outcome, refused, good, follow, asked}
 use Rattle.refusals.proofs.Outcomes.{refused-good}
 use Rattle.lookup.specs.Lookup.{group_start, firm_start, group_is, firm_is, group_listed, firm_listed}
-use Rattle.schedule.specs.Check.{kind_here, is_due, length_ok, fields_ok, is_repeated, header_causes, body_causes, cause, with_record, after, ending, Fine, scan, begin, check_of}
-use Rattle.schedule.specs.Good.{Once, GroupStands, FirmStands, GoodSchedule, Numbered}
+use Rattle.lookup.specs.InForce.{has_constants, rules_of, groups_from}
+use Rattle.schedule.specs.Check.{kind_here, is_due, length_ok, constants_in_range, constants_in_order, fields_ok, is_repeated, header_causes, body_causes, cause, with_record, after, ending, Fine, scan, begin, check_of}
+use Rattle.schedule.specs.Good.{Once, GroupStands, FirmStands, GoodSchedule, is_cause, Numbered}
 use Rattle.lookup.specs.declared.Layout.{Layout}
 use Rattle.schedule.specs.declared.scan.Cursor.{Cursor}
 use Rattle.schedule.specs.declared.scan.Kind.{Kind}
@@ -97,19 +101,33 @@ once_more n p once new i j hi hj ei ej = by (eqb i n) (eqb j n) refl refl
         absurd (false≢true (sym (new (rw (eqb-true j n t) at ej) i l) ∙ ei))
     by false false s t = once i j (omega (arith, eqb-false i n s)) (omega (arith, eqb-false j n t)) ei ej
 
--- what the head holds that was read: the month m, the closed days c, and f, where it ends
-record Headed (S : List ℕ) (m c f : ℕ) : Type 0 where
+-- what the head holds that was read: the month m and the closed days c
+record Headed (S : List ℕ) (m c : ℕ) : Type 0 where
   kind : kind_at S 0 ≡ 1
   size : length_at S 0 ≡ head_size
   month : m ≡ (head_fields (body_at S 0)).month
   closed : c ≡ (head_fields (body_at S 0)).closed
   fields : head_ok (head_fields (body_at S 0)) ≡ true
+
+-- directly after the head: the first record behind it starts at f, and of the n groups none was read
+record Bare (f n : ℕ) : Type 0 where
   first : f ≡ head_size
+  none : n ≡ 0
+
+-- the constants in force, whether the schedule gives them or not: the groups start at f
+record InForce (S : List ℕ) (f : ℕ) : Type 0 where
+  first : f ≡ groups_from S
+  size : has_constants S ≡ true → length_at S head_size ≡ constants_size
+  ranged : in_range (rules_of S) ≡ true
+  ordered : in_order (rules_of S) ≡ true
 
 -- what the records read so far hold
 record Sound (S : List ℕ) (p : Cursor) : Type 0 where
-  bare : p.at ≡ 0 → (p.held.groups ≡ 0) × (p.held.firms ≡ 0)
-  headed : 0 < p.at → Headed S p.held.month p.held.closed p.held.first
+  start : p.at ≡ 0 → (p.held.groups ≡ 0) × (p.held.firms ≡ 0)
+  headed : 0 < p.at → Headed S p.held.month p.held.closed
+  least : 0 < p.at → head_size ≤ p.at
+  bare_head : p.at ≡ head_size → Bare p.held.first p.held.groups
+  in_force : head_size < p.at → InForce S p.held.first
   starts : 0 < p.at → p.held.start ≡ group_start S p.held.first p.held.groups
   place : 0 < p.at → p.at ≡ firm_start p.held.start p.held.firms
   grouped : 0 < p.held.firms → 0 < p.held.groups
@@ -122,8 +140,11 @@ record Sound (S : List ℕ) (p : Cursor) : Type 0 where
 sound_begin : (S : List ℕ) → Sound S begin
 sound_begin S =
     record {
-      bare = λ q. (refl, refl);
+      start = λ q. (refl, refl);
       headed = λ h. absurd (omega arith);
+      least = λ h. absurd (omega arith);
+      bare_head = λ q. absurd (omega arith);
+      in_force = λ h. absurd (omega arith);
       starts = λ h. absurd (omega arith);
       place = λ h. absurd (omega arith);
       grouped = λ h. absurd (omega arith);
@@ -186,33 +207,69 @@ module _ (S : List ℕ) (at : ℕ) (fits : length_at S at ≤ length S - at) (si
   lists = simp (length-take, length-drop) (omega (arith, even))
 
   lists_few : within 1 64 (listed (body_at S at)) ≡ true
-  lists_few = in_range 1 64 (listed (body_at S at)) (omega (arith, lists, even)) (omega (arith, lists, even))
+  lists_few = is-within 1 64 (listed (body_at S at)) (omega (arith, lists, even)) (omega (arith, lists, even))
 
--- a head's and a firm's lengths are one each
+-- the lengths of a head, of constants and of a firm are one each
 head-length : (len : ℕ) → length_ok kind.Head len ≡ true → len ≡ head_size
 unfolding length_ok
 head-length len e = eqb-true len head_size e
+
+constants-length : (len : ℕ) → length_ok kind.Constants len ≡ true → len ≡ constants_size
+unfolding length_ok
+constants-length len e = eqb-true len constants_size e
 
 firm_length : (len : ℕ) → length_ok kind.Firm len ≡ true → len ≡ firm_size
 unfolding length_ok
 firm_length len e = eqb-true len firm_size e
 
+-- the constants that a schedule gives, and version 9.6's where a group stands directly after the head
+given_constants : (S : List ℕ) (f : ℕ) → has_constants S ≡ true → f ≡ head_size + constants_size → length_at S head_size ≡ constants_size
+    → in_range (constants_fields (body_at S head_size)) ≡ true → in_order (constants_fields (body_at S head_size)) ≡ true → InForce S f
+unfolding rules_of
+given_constants S f e q size ranged ordered =
+    record { first = rw e q; size = λ h. size; ranged = rw e ranged; ordered = rw e ordered }
+
+constants_of_96 : (S : List ℕ) (f : ℕ) → has_constants S ≡ false → f ≡ head_size → InForce S f
+unfolding rules_of
+constants_of_96 S f e q =
+    record {
+      first = rw e q;
+      size = λ h. absurd (false≢true (sym e ∙ h));
+      ranged = rw e (first_so (in_range version96) _ lawful_sets.of_96);
+      ordered = rw e (second_so (in_range version96) _ lawful_sets.of_96);
+    }
+
+-- so the constants in force are known where a group stands at `at`
+in_force_at : (S : List ℕ) (at f : ℕ) → kind_at S at ≡ group_kind → (at ≡ head_size → f ≡ head_size) → head_size ≤ at → (head_size < at → InForce S f)
+    → InForce S f
+in_force_at S at f number bare least s = by (eqb at head_size) refl
+  where
+    by : (b : Bool) → eqb at head_size ≡ b → InForce S f
+    by true e =
+        let q = eqb-true at head_size e in
+        constants_of_96 S f (ne_eqb _ _ (λ h. let two : 2 ≡ 6 = sym (rw q at number) ∙ h in omega arith)) (bare q)
+    by false e = s (omega (arith, eqb-false at head_size e, least))
+
 module _ (S : List ℕ) (p : Cursor) where
   sound_after : (k : Kind) → HasNumber k (kind_at S p.at) → is_due k p ≡ true → length_ok k (length_at S p.at) ≡ true
-      → length_at S p.at ≤ length S - p.at → fields_ok k (body_at S p.at) ≡ true
+      → length_at S p.at ≤ length S - p.at → constants_in_range k (body_at S p.at) ≡ true → constants_in_order k (body_at S p.at) ≡ true
+      → fields_ok k (body_at S p.at) ≡ true
       → is_repeated k S p.held (body_at S p.at) ≡ false → p.at < length S → Sound S p
       → Sound S (record { at = p.at + length_at S p.at; held = with_record k (body_at S p.at) (p.at + length_at S p.at) p.held })
-  unfolding is_due fields_ok is_repeated with_record
-  sound_after kind.Head number due sized fits fields once l s =
+  unfolding is_due constants_in_range constants_in_order fields_ok is_repeated with_record
+  sound_after kind.Head number due sized fits ranged ordered fields once l s =
       let stands = eqb-true p.at 0 due in
       let ten = head-length (length_at S p.at) sized in
-      let z = s.bare stands in
+      let z = s.start stands in
       let origin : group_start S (p.at + length_at S p.at) p.held.groups ≡ p.at + length_at S p.at = rw z.0 (group-first S _) in
       record {
-        bare = λ q. absurd (omega arith);
+        start = λ q. absurd (omega arith);
         headed =
             λ h.
-            record { kind = rw stands at number; size = rw stands at ten; month = rw stands; closed = rw stands; fields = rw stands at fields; first = omega arith };
+            record { kind = rw stands at number; size = rw stands at ten; month = rw stands; closed = rw stands; fields = rw stands at fields };
+        least = λ h. omega arith;
+        bare_head = λ q. record { first = q; none = z.0 };
+        in_force = λ h. absurd (omega arith);
         starts = λ h. sym origin;
         place = λ h. omega arith;
         grouped = s.grouped;
@@ -222,7 +279,30 @@ module _ (S : List ℕ) (p : Cursor) where
         group_once = λ C i j h. absurd (omega arith);
         firm_once = λ C i j h. absurd (omega arith);
       }
-  sound_after kind.Group number due sized fits fields once l s =
+  sound_after kind.Constants number due sized fits ranged ordered fields once l s =
+      let stands = eqb-true p.at head_size due in
+      let long = constants-length (length_at S p.at) sized in
+      let bare = s.bare_head stands in
+      let pos : 0 < p.at = omega arith in
+      let none : p.held.firms ≡ 0 = let q : 0 < p.held.firms → ⊥ = λ h. omega (arith, s.grouped h, bare.none) in omega (arith, q) in
+      let origin : group_start S (p.at + length_at S p.at) p.held.groups ≡ p.at + length_at S p.at = rw bare.none (group-first S _) in
+      let given : has_constants S ≡ true = eq-eqb _ _ (rw stands at number) in
+      record {
+        start = λ q. absurd (omega arith);
+        headed = λ h. s.headed pos;
+        least = λ h. omega arith;
+        bare_head = λ q. absurd (omega arith);
+        in_force = λ h. given_constants S (p.at + length_at S p.at) given (omega arith) (rw stands at long) (rw stands at ranged) (rw stands at ordered);
+        starts = λ h. sym origin;
+        place = λ h. omega arith;
+        grouped = s.grouped;
+        groups = λ i h. absurd (omega (arith, bare.none));
+        ranges = λ i h. absurd (omega (arith, bare.none));
+        firms = λ i h. absurd (omega arith);
+        group_once = λ C i j h. absurd (omega (arith, bare.none));
+        firm_once = λ C i j h. absurd (omega arith);
+      }
+  sound_after kind.Group number due sized fits ranged ordered fields once l s =
       let apart = eqb-false p.at 0 (not-true _ (first_so (not (eqb p.at 0)) (eqb p.held.firms 0) due)) in
       let none = eqb-true p.held.firms 0 (second_so (not (eqb p.at 0)) (eqb p.held.firms 0) due) in
       let pos : 0 < p.at = omega (arith, apart) in
@@ -239,8 +319,11 @@ module _ (S : List ℕ) (p : Cursor) where
       let long : 5 < length_at S p.at = omega (arith, even S p.at fits sized) in
       let fine : ok ≡ true = first_so ok (contracts_ok (body_at S p.at)) fields in
       record {
-        bare = λ q. absurd (omega arith);
+        start = λ q. absurd (omega arith);
         headed = λ h. s.headed pos;
+        least = λ h. omega arith;
+        bare_head = λ q. absurd (omega (arith, s.least pos));
+        in_force = λ h. in_force_at S p.at p.held.first number (λ q. (s.bare_head q).first) (s.least pos) s.in_force;
         starts = λ h. on;
         place = λ h. omega arith;
         grouped = λ h. omega arith;
@@ -250,16 +333,20 @@ module _ (S : List ℕ) (p : Cursor) where
         group_once = λ C. once_more p.held.groups (group_is S p.held.first C) (s.group_once C) (new_group S p.held (rw stands at long) (rw stands at once) C);
         firm_once = λ C i j h. absurd (omega arith);
       }
-  sound_after kind.Firm number due sized fits fields once l s =
+  sound_after kind.Firm number due sized fits ranged ordered fields once l s =
       let seven = firm_length (length_at S p.at) sized in
       let some = eqb-false p.held.groups 0 (not-true _ due) in
-      let apart : p.at ≡ 0 → ⊥ = λ z. some (s.bare z).0 in
+      let apart : p.at ≡ 0 → ⊥ = λ z. some (s.start z).0 in
       let pos : 0 < p.at = omega (arith, apart) in
+      let behind : head_size < p.at = let q : p.at ≡ head_size → ⊥ = λ e. some (s.bare_head e).none in omega (arith, q, s.least pos) in
       let stands = s.place pos in
       let stand : FirmStands S p.at = record { kind = number; size = seven; letters = fields } in
       record {
-        bare = λ q. absurd (omega arith);
+        start = λ q. absurd (omega arith);
         headed = λ h. s.headed pos;
+        least = λ h. omega arith;
+        bare_head = λ q. absurd (omega (arith, s.least pos));
+        in_force = λ h. s.in_force behind;
         starts = λ h. s.starts pos;
         place = λ h. omega arith;
         grouped = λ h. omega (arith, some);
@@ -269,12 +356,12 @@ module _ (S : List ℕ) (p : Cursor) where
         group_once = s.group_once;
         firm_once = λ C. once_more p.held.firms (firm_is S p.held.start C) (s.firm_once C) (new_firm S p.held (rw stands at seven) (omega arith) (rw stands at once) C);
       }
-  sound_after kind.Other number due sized fits fields once l s = absurd (false≢true due)
+  sound_after kind.Other number due sized fits ranged ordered fields once l s = absurd (false≢true due)
 
   sound_kept : p.at < length S → cause S p ≡ 0 → Sound S p → Sound S (after S p)
   sound_kept l z s =
       let t = taken S p z in
-      sound_after (kind_here S p) (kind_number (kind_at S p.at)) t.due t.sized t.fits t.fields t.new l s
+      sound_after (kind_here S p) (kind_number (kind_at S p.at)) t.due t.sized t.fits t.ranged t.ordered t.fields t.new l s
 
 fine_begin : (S : List ℕ) → Fine S begin
 fine_begin S = record { inside = omega arith; groups = omega arith; firms = omega arith; near = omega arith }
@@ -286,8 +373,11 @@ good-schedule S {l} e =
     let s = q.kept.1 in
     let r = ending-good S q.place.held l q.layout in
     let some : 0 < q.place.held.firms = omega (arith, r.1) in
-    let pos : 0 < q.place.at = let apart : q.place.at ≡ 0 → ⊥ = λ z. r.1 (s.bare z).1 in omega (arith, apart) in
+    let pos : 0 < q.place.at = let apart : q.place.at ≡ 0 → ⊥ = λ z. r.1 (s.start z).1 in omega (arith, apart) in
     let h = s.headed pos in
+    let behind : head_size < q.place.at
+    = let apart : q.place.at ≡ head_size → ⊥ = λ z. omega (arith, s.grouped some, (s.bare_head z).none) in omega (arith, apart, s.least pos) in
+    let c = s.in_force behind in
     rw (← r.0)
     (record {
       some_group = s.grouped some;
@@ -296,10 +386,13 @@ good-schedule S {l} e =
       few_firms = f.firms;
       head_first = h.kind;
       head_length = h.size;
-      first = h.first;
+      first = c.first;
       starts = s.starts pos;
       ends = omega (arith, s.place pos, f.inside, q.over);
       short = omega (arith, f.near, f.groups, f.firms, q.over);
+      constants = c.size;
+      ranged = c.ranged;
+      ordered = c.ordered;
       month = h.month;
       closed = h.closed;
       head = h.fields;
@@ -310,27 +403,37 @@ good-schedule S {l} e =
       firm_once = s.firm_once;
     })
 
--- a cause is one of 1 to 7
-cause_most : (S : List ℕ) (p : Cursor) → cause S p ≤ 7
-unfolding cause
-cause_most S p = choose_most (λ n. n) 7 (header_causes S p ++ body_causes S p) refl (omega arith)
+-- a cause is one of the numbers, or 0
+abbrev known : ℕ → ℕ
+known n = cond (eqb n 0 || is_cause n) 0 1
 
--- a refusal of the scan has one of document 01's numbers: the fuel lasts to the end
+cause_known : (S : List ℕ) (p : Cursor) → known (cause S p) ≤ 0
+unfolding cause
+cause_known S p = choose_most known 0 (header_causes S p ++ body_causes S p) refl (omega arith)
+
+of_cause : {k : ℕ} (n : ℕ) → known n ≤ 0 → (n ≡ 0 → ⊥) → n ≡ k → is_cause k ≡ true
+of_cause {k} n h z q = by (is_cause n) refl
+  where
+    by : (b : Bool) → is_cause n ≡ b → is_cause k ≡ true
+    by true e = rw (← q) e
+    by false e = absurd (omega (arith, rw (ne_eqb n 0 z, e) at h))
+
+-- a refusal of the scan has one of them: the fuel lasts to the end
 module _ (S : List ℕ) {k o : ℕ} where
-  numbered_end : (l : Layout) → ending S l ≡ refused k o → (1 ≤ k) × (k ≤ 7)
+  numbered_end : (l : Layout) → ending S l ≡ refused k o → is_cause k ≡ true
   unfolding ending
   numbered_end l e = by (eqb l.firms 0) e
     where
-      by : (b : Bool) → cond b (refused 4 (length S)) (good l) ≡ refused k o → (1 ≤ k) × (k ≤ 7)
-      by true f = let q : 4 ≡ k = cc in omega arith
+      by : (b : Bool) → cond b (refused 4 (length S)) (good l) ≡ refused k o → is_cause k ≡ true
+      by true f = let q : 4 ≡ k = cc in rw (← q) refl
       by false f = absurd (refused-good (sym f))
 
-  numbered_scan : (n : ℕ) (p : Cursor) → length S - p.at < n → Fine S p → scan S n p ≡ refused k o → (1 ≤ k) × (k ≤ 7)
+  numbered_scan : (n : ℕ) (p : Cursor) → length S - p.at < n → Fine S p → scan S n p ≡ refused k o → is_cause k ≡ true
   numbered_scan zero p h fine e = absurd (omega arith)
   numbered_scan (suc n) p h fine e = by (leb (length S) p.at) (eqb (cause S p) 0) refl refl (λ a f g. numbered_scan n (after S p) a f g)
     where
       by : (a b : Bool) → leb (length S) p.at ≡ a → eqb (cause S p) 0 ≡ b
-          → (length S - (after S p).at < n → Fine S (after S p) → scan S n (after S p) ≡ refused k o → (1 ≤ k) × (k ≤ 7)) → (1 ≤ k) × (k ≤ 7)
+          → (length S - (after S p).at < n → Fine S (after S p) → scan S n (after S p) ≡ refused k o → is_cause k ≡ true) → is_cause k ≡ true
       by true b s t rest = numbered_end p.held (sym (scan_end S p (suc n) (omega arith) (leb-true _ _ s)) ∙ e)
       by false true s t rest =
           let z = eqb-true (cause S p) 0 t in
@@ -340,9 +443,8 @@ module _ (S : List ℕ) {k o : ℕ} where
       by false false s t rest =
           let z = eqb-false (cause S p) 0 t in
           let q : cause S p ≡ k = let r = sym (scan_refused S p (suc n) (omega arith) (leb-false _ _ s) z) ∙ e in cc in
-          omega (arith, cause_most S p, z)
+          of_cause (cause S p) (cause_known S p) z q
 
 pub numbered : (S : List ℕ) → Numbered S
 unfolding check_of
-numbered S n o e =
-    let r = numbered_scan S (length S + 1) begin (omega arith) (fine_begin S) e in in_range 1 7 n r.0 r.1
+numbered S n o e = numbered_scan S (length S + 1) begin (omega arith) (fine_begin S) e

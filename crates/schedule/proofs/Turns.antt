@@ -7,9 +7,9 @@ use native.Mathlib.Omega.{arith}
 use lib.ListN.{length}
 use borrow.Author.Tests.{le-leb, lt-leb, eq-eqb, ne_eqb, eqb-true, eqb-false, ltb-false, not-false}
 use Rattle.wire.proofs.Choose.{here, next, done, chosen, passed}
-use Rattle.records.specs.Bodies.{length_at, body_at, head_size, firm_size}
+use Rattle.records.specs.Bodies.{length_at, body_at, head_size, constants_size, firm_size}
 use Rattle.refusals.specs.Outcome.{refused}
-use Rattle.schedule.specs.Check.{kind_here, is_due, length_ok, is_full, fields_ok, is_repeated, cause, with_record, after, ending, Fine, scan}
+use Rattle.schedule.specs.Check.{kind_here, is_due, length_ok, is_full, constants_in_range, constants_in_order, fields_ok, is_repeated, cause, with_record, after, ending, Fine, scan}
 use Rattle.schedule.specs.declared.scan.Cursor.{Cursor}
 use Rattle.schedule.specs.declared.scan.Kind.{Kind}
 use Rattle.schedule.specs.declared.scan.Kind.TheVariants as kind
@@ -21,6 +21,8 @@ pub record Taken (S : List ℕ) (p : Cursor) : Type 0 where
   pub sized : length_ok (kind_here S p) (length_at S p.at) ≡ true
   pub fits : length_at S p.at ≤ length S - p.at
   pub room : is_full (kind_here S p) p.held ≡ false
+  pub ranged : constants_in_range (kind_here S p) (body_at S p.at) ≡ true
+  pub ordered : constants_in_order (kind_here S p) (body_at S p.at) ≡ true
   pub fields : fields_ok (kind_here S p) (body_at S p.at) ≡ true
   pub new : is_repeated (kind_here S p) S p.held (body_at S p.at) ≡ false
 
@@ -30,13 +32,16 @@ module _ (S : List ℕ) (p : Cursor) where
   taken z =
       let h = passed _ refl z in
       let b = h.1.1.1.1 in
+      let f = b.1.1.1 in
       record {
         due = not-false _ h.1.0;
         sized = not-false _ h.1.1.0;
         fits = ltb-false _ _ h.1.1.1.0;
         room = b.0;
-        fields = not-false _ b.1.0;
-        new = b.1.1.0;
+        ranged = not-false _ b.1.0;
+        ordered = not-false _ b.1.1.0;
+        fields = not-false _ f.0;
+        new = f.1.0;
       }
 
   -- the three ways of a turn
@@ -61,6 +66,7 @@ module _ (S : List ℕ) (p : Cursor) where
       → Fine S (record { at = p.at + length_at S p.at; held = with_record k (body_at S p.at) (p.at + length_at S p.at) p.held })
   unfolding is_due length_ok is_full with_record
   further kind.Head due sized fits full l fine = omega (arith, eqb-true p.at 0 due, eqb-true (length_at S p.at) head_size sized)
+  further kind.Constants due sized fits full l fine = omega (arith, eqb-true p.at head_size due, eqb-true (length_at S p.at) constants_size sized)
   further kind.Group due sized fits full l fine =
       omega (arith, length_bounds kind.Group (length_at S p.at) sized, eqb-false p.held.groups 32 full)
   further kind.Firm due sized fits full l fine =

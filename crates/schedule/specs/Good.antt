@@ -1,14 +1,16 @@
--- What the check's answer tells (document 01, "Records"): what a good schedule holds, and that a refusal has a number. Proved in proofs/Good.antt
--- and Found.antt.
+-- What the check's answer tells (document 01, "Records", and document 02, 2.9): what a good schedule holds, and that a refusal has a number.
+-- Proved in proofs/Good.antt and Found.antt.
 -- Assumes nothing.
-use Rattle.std.specs.Prelude.{ℕ, ◌+◌, ◌*◌, ◌≤◌, ◌<◌, Bool, true, false, List, Some, None, ◌≡◌, length}
+use Rattle.std.specs.Prelude.{ℕ, ◌+◌, ◌*◌, ◌≤◌, ◌<◌, Bool, true, false, ◌||◌, List, Some, None, ◌≡◌, length}
 use Rattle.wire.specs.Choose.{within}
+use Rattle.rules.specs.Constants.{in_range, in_order}
 use Rattle.rules.specs.Marks.{most_groups}
-use Rattle.records.specs.Bodies.{length_at, kind_at, body_at, head_kind, group_kind, firm_kind, head_size, firm_size}
+use Rattle.records.specs.Bodies.{length_at, kind_at, body_at, head_kind, group_kind, firm_kind, head_size, constants_size, firm_size}
 use Rattle.records.specs.Fields.{head_fields, head_ok, group_in_range, firm_fields, firm_ok}
 use Rattle.contracts.specs.Listing.{contracts_ok, listed}
 use Rattle.refusals.specs.Outcome.{refused}
 use Rattle.lookup.specs.Lookup.{group_start, firm_start, group_at, group_is, firm_is, group_found_at, group_found, firm_found}
+use Rattle.lookup.specs.InForce.{has_constants, rules_of, groups_from}
 use Rattle.schedule.specs.Check.{most_firms, check_of}
 use Rattle.lookup.specs.declared.GroupPlace.{GroupPlace}
 use Rattle.lookup.specs.declared.Layout.{Layout}
@@ -36,14 +38,18 @@ pub record GoodSchedule (S : List ℕ) (l : Layout) : Type 0 where
   pub few_groups : l.groups ≤ most_groups
   pub some_firm : 1 ≤ l.firms
   pub few_firms : l.firms ≤ most_firms
-  -- the head stands first, the groups follow it, the firms the groups, and nothing the firms
+  -- the head stands first, the groups follow it, 2.9: behind the constants where there are any, the firms the groups, and nothing the firms
   pub head_first : kind_at S 0 ≡ head_kind
   pub head_length : length_at S 0 ≡ head_size
-  pub first : l.first ≡ head_size
+  pub first : l.first ≡ groups_from S
   pub starts : l.start ≡ group_start S l.first l.groups
   pub ends : length S ≡ firm_start l.start l.firms
-  -- so it has at most 10 + 144 × 32 + 7 × 200 bytes
-  pub short : length S ≤ 6018
+  -- so it has at most 10 + 28 + 144 × 32 + 7 × 200 bytes
+  pub short : length S ≤ 6046
+  -- 2.9: constants have 28 bytes, and those in force are a lawful set, whether the schedule gives them or not
+  pub constants : has_constants S ≡ true → length_at S head_size ≡ constants_size
+  pub ranged : in_range (rules_of S) ≡ true
+  pub ordered : in_order (rules_of S) ≡ true
   -- the head's fields, in range: a month number, and no bit past the month's end
   pub month : l.month ≡ (head_fields (body_at S 0)).month
   pub closed : l.closed ≡ (head_fields (body_at S 0)).closed
@@ -70,6 +76,10 @@ pub record Searched (S : List ℕ) (l : Layout) : Type 0 where
   pub firm : (C : List ℕ) {i : ℕ} → firm_found S l C ≡ Some i → Only l.firms (firm_is S l.start C) i
   pub no_firm : (C : List ℕ) → firm_found S l C ≡ None → (i : ℕ) → i < l.firms → firm_is S l.start C i ≡ false
 
--- a refusal of the check always has one of document 01's numbers
+-- Numbers of refusal: those of a schedule's records are 1 to 7; 2.9: and 37 and 38
+abbrev pub is_cause : (number : ℕ) → Bool
+is_cause n = within 1 7 n || within 37 38 n
+
+-- a refusal of the check always has one of these numbers
 abbrev pub Numbered : (S : List ℕ) → Type 0
-Numbered S = (n o : ℕ) → check_of S ≡ refused n o → within 1 7 n ≡ true
+Numbered S = (n o : ℕ) → check_of S ≡ refused n o → is_cause n ≡ true

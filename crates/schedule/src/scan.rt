@@ -3,14 +3,15 @@ ghost use Rattle.std.specs.Prelude.{◌≡◌, ◌+◌, ◌^◌, ◌≤◌, ◌<
 ghost use Rattle.wire.specs.Choose.{choose};
 ghost use Rattle.records.specs.Bodies.{length_at, body_at};
 ghost use Rattle.refusals.specs.Outcome.{cause_number, outcome};
-ghost use Rattle.schedule.specs.Check.{kind_of, is_due, length_ok, is_full, fields_ok, is_repeated};
+ghost use Rattle.schedule.specs.Check.{kind_of, is_due, length_ok, is_full, constants_in_range, constants_in_order, fields_ok, is_repeated};
 ghost use Rattle.schedule.specs.Check.{kind_here, header_causes, body_causes, cause, with_record, after, Fine, check_of};
 
 use contracts::contracts_ok;
 use lookup::{Layout, Schedule};
 use records::{
-    FIRM_KIND, FIRM_SIZE, GROUP_KIND, GROUP_LEAST, GROUP_MOST, HEAD_KIND, HEAD_SIZE, body_at,
-    firm_fields, firm_ok, group_fields, group_in_range, head_fields, head_ok,
+    CONSTANTS_KIND, CONSTANTS_SIZE, FIRM_KIND, FIRM_SIZE, GROUP_KIND, GROUP_LEAST, GROUP_MOST,
+    HEAD_KIND, HEAD_SIZE, body_at, constants_fields, firm_fields, firm_ok, group_fields,
+    group_in_range, head_fields, head_ok,
 };
 use refusals::{Cause, Refusal};
 use wire::u16_at;
@@ -19,6 +20,7 @@ use wire::u16_at;
 #[derive(Clone, Copy, Debug, PartialEq, Eq)]
 enum Kind {
     Head,
+    Constants,
     Group,
     Firm,
     Other,
@@ -53,6 +55,7 @@ impl From<u16> for Kind {
     fn from(number: u16) -> Kind {
         match number {
             HEAD_KIND => Kind::Head,
+            CONSTANTS_KIND => Kind::Constants,
             GROUP_KIND => Kind::Group,
             FIRM_KIND => Kind::Firm,
             _ => Kind::Other,
@@ -67,6 +70,7 @@ impl Kind {
     {
         match self {
             Kind::Head => place.at == 0,
+            Kind::Constants => place.at == HEAD_SIZE,
             Kind::Group => (place.at != 0) & (place.held.firms == 0),
             Kind::Firm => place.held.groups != 0,
             Kind::Other => false,
@@ -79,6 +83,7 @@ impl Kind {
     {
         match self {
             Kind::Head => len == HEAD_SIZE,
+            Kind::Constants => len == CONSTANTS_SIZE,
             Kind::Group => (GROUP_LEAST..=GROUP_MOST).contains(&len) & (len % 2 == 0),
             Kind::Firm => len == FIRM_SIZE,
             Kind::Other => false,
@@ -91,6 +96,7 @@ impl Kind {
     {
         match self {
             Kind::Head => false,
+            Kind::Constants => false,
             Kind::Group => held.groups == 32,
             Kind::Firm => held.firms == 200,
             Kind::Other => false,
@@ -99,12 +105,33 @@ impl Kind {
 }
 
 impl Record<'_> {
+    #[tactic(auto, unfolding(crate::specs::Check::constants_in_range))]
+    fn constants_in_range(&self) -> bool
+        ensures { result ≡ constants_in_range self.now.kind self.now.body.now }
+    {
+        match self.kind {
+            Kind::Constants => constants_fields(self.body).is_in_range(),
+            Kind::Head | Kind::Group | Kind::Firm | Kind::Other => true,
+        }
+    }
+
+    #[tactic(auto, unfolding(crate::specs::Check::constants_in_order))]
+    fn constants_in_order(&self) -> bool
+        ensures { result ≡ constants_in_order self.now.kind self.now.body.now }
+    {
+        match self.kind {
+            Kind::Constants => constants_fields(self.body).is_in_order(),
+            Kind::Head | Kind::Group | Kind::Firm | Kind::Other => true,
+        }
+    }
+
     #[tactic(auto, unfolding(crate::specs::Check::fields_ok))]
     fn fields_ok(&self) -> bool
         ensures { result ≡ fields_ok self.now.kind self.now.body.now }
     {
         match self.kind {
             Kind::Head => head_ok(head_fields(self.body)),
+            Kind::Constants => true,
             Kind::Group => group_in_range(group_fields(self.body)) & contracts_ok(self.body),
             Kind::Firm => firm_ok(firm_fields(self.body)),
             Kind::Other => true,
@@ -117,6 +144,7 @@ impl Record<'_> {
     {
         match self.kind {
             Kind::Head => false,
+            Kind::Constants => false,
             Kind::Group => before.find_group(group_fields(self.body).code).is_some(),
             Kind::Firm => before.find_firm(self.body).is_some(),
             Kind::Other => false,
@@ -140,6 +168,11 @@ impl Record<'_> {
                     ..held
                 }
             }
+            Kind::Constants => Layout {
+                first: next as u32,
+                start: next as u32,
+                ..held
+            },
             Kind::Group => Layout {
                 groups: held.groups + 1,
                 start: next as u32,
@@ -203,7 +236,7 @@ impl Scan<'_> {
         Ok(())
     }
 
-    // Its causes 7, 5 and 6.
+    // Its causes 7, 37, 38, 5 and 6.
     #[tactic(auto, unfolding(wire::specs::Choose::choose))]
     fn check_body(&self) -> Result<(), Cause>
         ensures { cause_number result ≡ choose (body_causes self.now.bytes.now self.now.place) 0 }
@@ -211,6 +244,12 @@ impl Scan<'_> {
         let record = self.record();
         if record.kind.is_full(self.place.held) {
             return Err(Cause::TooMany);
+        }
+        if !record.constants_in_range() {
+            return Err(Cause::BadConstant);
+        }
+        if !record.constants_in_order() {
+            return Err(Cause::ConstantsOutOfOrder);
         }
         if !record.fields_ok() {
             return Err(Cause::BadField);
