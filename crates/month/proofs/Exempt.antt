@@ -14,9 +14,10 @@ use Rattle.std.specs.Cmp.{first_so, second_so}
 use Rattle.wire.proofs.Bools.{cond_le, cond_where, range}
 use Rattle.wire.proofs.Choose.{every, none_at}
 use Rattle.wire.proofs.Sums.{sum_more, sum_le, sum_most, sum-cost}
-use Rattle.rules.specs.Verdict.{version96, not_judged, is_violation, limit, fits, is_benchmark, days_verdict, days_meaning}
+use Rattle.rules.specs.Verdict.{not_judged, is_violation, limit, fits, is_benchmark, days_verdict, days_meaning}
 use Rattle.rules.specs.Month.{Terms, DailyTotals, counted, over_counted, days, sums, exempt}
 use Rattle.rules.specs.Marks.{places, day_of, group_of, verdict_at}
+use Rattle.rules.specs.declared.Rules.{Rules}
 use Rattle.rules.specs.declared.NoVerdict.{NoVerdict}
 use Rattle.rules.specs.declared.NoVerdict.TheVariants as none
 use Rattle.rules.specs.declared.Totals.{Totals}
@@ -63,12 +64,12 @@ counted_fits S {l} B f ok g h day e = cell_fits S (cells l.groups B f) ok g day 
 -- so there is a verdict on a cell of a listed group, on a day in effect, and it is the place's
 pub verdict_place : (S : List ℕ) {l : Layout} (c : FirmCells) → Sound S l c → (i : ℕ)
     → (ltb (group_of i) l.groups && in_effect l.month l.closed (day_of i)) ≡ true
-    → verdict_in (days_verdict 1 (cell_totals c (group_of i) (day_of i)) (group_at S l (group_of i)).benchmark) ≡ verdict_at (rules_of S) (terms S l) (cell_totals c) i
+    → verdict_in (days_verdict (rules_of S) 1 (cell_totals c (group_of i) (day_of i)) (group_at S l (group_of i)).benchmark) ≡ verdict_at (rules_of S) (terms S l) (cell_totals c) i
 verdict_place S {l} c ok i e =
     let h = ltb-true (group_of i) l.groups (first_so (ltb (group_of i) l.groups) _ e) in
     let on = second_so (ltb (group_of i) l.groups) _ e in
     let b = (group-listed S ok.checked (group_of i) h).benchmark in
-    rw e (ap verdict_in (days-decided 1 (cell_totals c (group_of i) (day_of i)) (group_at S l (group_of i)).benchmark (lit≤ tt) (cell_fits S c ok (group_of i) (day_of i) (omega arith) on) b))
+    rw e (ap verdict_in (days-decided (rules_of S) 1 (cell_totals c (group_of i) (day_of i)) (group_at S l (group_of i)).benchmark (lit≤ tt) (cell_fits S c ok (group_of i) (day_of i) (omega arith) on) b))
 
 -- a day's sums, number by number
 day_more : (t : Bool) (s : MonthSums) (a : Totals)
@@ -98,6 +99,12 @@ module _ (s : Terms) (c : DailyTotals) (g : ℕ) where
       let e : day + 1 - 1 ≡ day - 1 + 1 = omega arith in
       let f : day - 1 + 1 ≡ day = omega arith in
       rw (e, sums_more, f) refl
+
+  -- a group without messages is exempt
+  pub exempt_quiet : (P : Rules) → ((day : ℕ) → (c g day).raw ≡ 0) → exempt P s c g ≡ true
+  exempt_quiet P none =
+      let quiet = sum_most 31 0 (λ i. cond (counted s c g (i + 1)) (c g (i + 1)).raw 0) (λ i h. cond_le (counted s c g (i + 1)) (omega (arith, none (i + 1))) (lit≤ tt)) in
+      rw (le-leb (sums s c g).raw (P.edge1 * days s c g) (omega (arith, quiet))) refl
 
   -- what is at most the limit on each counted day
   module _ (f : Totals → ℕ) (small : (day : ℕ) → counted s c g day ≡ true → f (c g day) ≤ limit) where
@@ -137,9 +144,9 @@ module _ (s : Terms) (c : DailyTotals) (g : ℕ) where
         )
 
     -- so there is a verdict on a month's sums, and it says whether the month is exempt
-    pub exempt_verdict : is_benchmark (s.benchmark g) ≡ true
-        → exempt version96 s c g ≡ not (is_violation (verdict_in (days_verdict (days s c g) (sums s c g) (s.benchmark g))).code)
-    exempt_verdict b =
+    pub exempt_verdict : (P : Rules) → is_benchmark (s.benchmark g) ≡ true
+        → exempt P s c g ≡ not (is_violation (verdict_in (days_verdict P (days s c g) (sums s c g) (s.benchmark g))).code)
+    exempt_verdict P b =
         let B = s.benchmark g in
-        let is = days-decided (days s c g) (sums s c g) B (days_under 31) sums_fit b in
-        exempt_code version96 B (days s c g) (sums s c g) ∙ ap (λ j. not (is_violation (verdict_in j).code)) (sym is)
+        let is = days-decided P (days s c g) (sums s c g) B (days_under 31) sums_fit b in
+        exempt_code P B (days s c g) (sums s c g) ∙ ap (λ j. not (is_violation (verdict_in j).code)) (sym is)

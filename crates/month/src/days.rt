@@ -13,7 +13,7 @@ use crate::firm::FirmBook;
 use book::cell_in;
 use calendar::{days_in, in_effect};
 use lookup::Layout;
-use rules::{GROUPS, LIMIT, NOT_JUDGED, PLACES, Totals, Verdict, days_verdict, fits, is_violation};
+use rules::{GROUPS, LIMIT, NOT_JUDGED, PLACES, Totals, Verdict, fits, is_violation};
 use std::array;
 
 // Whether place i is of a day of the month, and has a number above the limit.
@@ -106,7 +106,10 @@ impl FirmBook<'_> {
             return true;
         }
         let benchmark = u64::from(self.group(g).benchmark);
-        let verdict = days_verdict(sums.days, Totals::from(sums), benchmark).unwrap_or(NOT_JUDGED);
+        let verdict = self
+            .rules
+            .days_verdict(sums.days, Totals::from(sums), benchmark)
+            .unwrap_or(NOT_JUDGED);
         !is_violation(verdict.code)
     }
 
@@ -123,7 +126,9 @@ impl FirmBook<'_> {
         }
         let benchmark = u64::from(self.group(g).benchmark);
         let t = cell_in(self.book, l.groups, self.firm, g as u8, day).totals;
-        days_verdict(1, t, benchmark).unwrap_or(NOT_JUDGED)
+        self.rules
+            .days_verdict(1, t, benchmark)
+            .unwrap_or(NOT_JUDGED)
     }
 
     // The verdicts on the firm's places, day by day.

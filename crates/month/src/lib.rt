@@ -48,7 +48,7 @@ fn judged_month(firm: &FirmBook) -> Month
 {
     let groups = firm.groups();
     let verdicts = firm.verdicts();
-    let marks = give_marks(rules_of(firm.schedule.bytes), codes_of(&verdicts), &groups);
+    let marks = give_marks(firm.rules, codes_of(&verdicts), &groups);
     Month {
         layout: firm.schedule.layout,
         firm: firm.firm,
@@ -73,9 +73,11 @@ pub fn firm_month(schedule: &[u8], book: &[u64], code: &[u8]) -> Result<Month, R
         return Err(Refusal::from(Cause::Excess));
     }
     let starts = group_starts(&schedule);
+    let rules = rules_of(schedule.bytes);
     Ok(judged_month(&FirmBook {
         schedule,
         starts,
+        rules,
         book,
         firm,
     }))

@@ -1,4 +1,5 @@
--- A search by code in a good schedule finds the only record of its kind that has the code: no code is repeated. A listed group's fields are in range.
+-- A search by code in a good schedule finds the only record of its kind that has the code: no code is repeated. A listed group's fields are in range, and
+-- the constants in force are a lawful set.
 use Prim.Native.Nat.{ℕ, ◌<◌}
 use mathlib.Core.Bool.{Bool, true, false}
 use mathlib.Core.List.{List}
@@ -9,11 +10,14 @@ use Rattle.std.proofs.lemmas.Slice.Eq.{bytes_eq-Decides}
 use Rattle.wire.specs.Choose.{within}
 use Rattle.wire.proofs.Choose.{each, none_at}
 use Rattle.rules.specs.Verdict.{is_benchmark}
+use Rattle.rules.specs.Constants.{Falling, clamped}
+use Rattle.rules.proofs.Laws.{lawful_sets}
 use Rattle.records.specs.Bodies.{rest_at}
 use Rattle.records.specs.Fields.{are_letters, group_fields, group_in_range}
 use Rattle.records.specs.declared.fields.Group.{Group}
 use Rattle.refusals.specs.Outcome.{good}
 use Rattle.lookup.specs.Lookup.{group_start, group_is, group_listed, firm_is, firm_listed, group_at, group_found_at, group_found, firm_found}
+use Rattle.lookup.specs.InForce.{rules_of}
 use Rattle.schedule.specs.Check.{check_of}
 use Rattle.schedule.specs.Good.{Once, Only, Searched}
 use Rattle.lookup.specs.declared.GroupPlace.{GroupPlace}
@@ -51,6 +55,13 @@ in_range g e =
 module _ (S : List ℕ) {l : Layout} (e : check_of S ≡ good l) where
   pub group-listed : (g : ℕ) → g < l.groups → InRange (group_at S l g)
   group-listed g h = in_range (group_at S l g) ((good-schedule S e).ranges g h)
+
+  -- 2.9: the constants in force are judged by as they are, and their factors do not grow
+  pub rules-clamped : clamped (rules_of S) ≡ rules_of S
+  rules-clamped = lawful_sets.as_it_is (rules_of S) (good-schedule S e).ranged
+
+  pub rules-falling : Falling (rules_of S)
+  rules-falling = lawful_sets.falls (rules_of S) (good-schedule S e).ordered
 
   -- a listed group's code is that by which it is found
   code_found : (g : ℕ) → g < l.groups → (group_fields (rest_at S (group_start S l.first g))).code ≡ (group_at S l g).code

@@ -37,6 +37,7 @@ returns c =
 pub invariant_of-judged_month : goal.invariant_of-judged_month
 invariant_of-judged_month c =
     record {
+      in_force = c.rules_of-rules.ensures;
       stand = c.group_starts-starts.ensures;
       sound = record { checked = (sized _ _ (sym c.in_ok-layout.ensures)).schedule; within = sym c.has_excess.ensures ∙ c.if-has_excess.false };
     }

@@ -26,6 +26,6 @@ returns c =
       groups = g.ensures;
       verdicts = v.ensures;
       marks = c.give_marks-marks.ensures
-          ∙ ap (λ (p : Rules). table places (mark p (held c.codes_of.result g.result))) c.rules_of.ensures
+          ∙ ap (λ (p : Rules). table places (mark p (held c.codes_of.result g.result))) s.in_force
           ∙ held_marks s.schedule.bytes.now s.schedule.layout (totals_of s) _ _ codes g.ensures;
     }
