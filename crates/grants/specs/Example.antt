@@ -11,7 +11,7 @@ use Rattle.refusals.specs.Outcome.{given}
 use Rattle.contracts.specs.Listing.{contracts_ok, contract_bad, before, contract, listed}
 use Rattle.lookup.specs.Lookup.{group_start, group_is, firm_is, group_listed, firm_listed}
 use Rattle.lookup.specs.declared.Layout.{Layout}
-use Rattle.schedule.specs.Check.{nothing, check_of, scan, ending, with_record, cause, is_repeated, fields_ok, is_full, length_ok, is_due, kind_of}
+use Rattle.schedule.specs.Check.{nothing, check_of, scan, ending, with_record, cause, is_repeated, fields_ok, constants_in_order, constants_in_range, is_full, length_ok, is_due, kind_of}
 use Rattle.accepted.specs.Samples.{head, group, ABC, firm}
 use Rattle.grants.specs.Grants.{grant_kind, grant_size, grants_causes, named}
 
@@ -70,7 +70,7 @@ pub record Example : Type 0 where
   pub other_day : named S l ABC three 97 ≡ false
 
 pub example : Example
-unfolding check_of scan ending with_record cause is_repeated fields_ok is_full length_ok is_due kind_of firm_listed group_listed firm_is group_is group_start
+unfolding check_of scan ending with_record cause is_repeated fields_ok constants_in_order constants_in_range is_full length_ok is_due kind_of firm_listed group_listed firm_is group_is group_start
     firm_ok firm_fields has_code group_in_range group_fields contracts_ok contract_bad before contract listed head_ok head_fields is_letter days_in joined
     seek_in all choose u32_at u16_at
 example =
