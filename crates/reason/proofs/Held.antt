@@ -14,7 +14,9 @@ use Rattle.wire.specs.Choose.{last_below}
 use Rattle.wire.specs.Sums.{bit}
 use Rattle.wire.proofs.Counts.{last_inside, last_same}
 use Rattle.wire.proofs.Sums.{sum_same}
-use Rattle.rules.specs.Verdict.{version96, is_violation, fits, is_benchmark, is_refused, severe_sides, day_sides}
+use Rattle.rules.specs.Constants.{clamped}
+use Rattle.rules.specs.declared.Rules.{Rules}
+use Rattle.rules.specs.Verdict.{is_violation, fits, is_benchmark, is_refused, severe_sides, day_sides}
 use Rattle.rules.specs.Marks.{places, day_of, group_of, mark}
 use Rattle.rules.specs.declared.Totals.{Totals}
 use Rattle.rules.proofs.Marks.{on_place, mark-none}
@@ -26,7 +28,7 @@ use Rattle.refusals.specs.Outcome.{good}
 use Rattle.lookup.specs.Lookup.{group_at, firm_place}
 use Rattle.lookup.specs.InForce.{rules_of}
 use Rattle.lookup.specs.declared.Layout.{Layout}
-use Rattle.schedule.proofs.Found.{group-listed}
+use Rattle.schedule.proofs.Found.{group-listed, rules-clamped}
 use Rattle.book.specs.Book.{totals_in}
 use Rattle.month.specs.Month.{firm_cells, firm_totals}
 use Rattle.month.specs.Parts.{Sound, held_mark}
@@ -101,9 +103,9 @@ module _ (groups groups' : (g : ℕ) → Group) (sums sums' : (g : ℕ) → Mont
     reason_same k e = by_mark k (m i l ∙ e) e
 
 -- where 24 does not refuse the day its sides are there
-sides_there : (t : Totals) (B : ℕ) → is_refused 1 t B ≡ false → sides_or (day_sides t B) ≡ severe_sides version96 B 1 t
+sides_there : (P : Rules) (t : Totals) (B : ℕ) → is_refused 1 t B ≡ false → sides_or (day_sides P t B) ≡ severe_sides P B 1 t
 unfolding day_sides
-sides_there t B e = rw e refl
+sides_there P t B e = rw e refl
 
 module _ (S B C G : List ℕ) {l : Layout} (e : granted_answer S B C G ≡ good l) where
   sound : Sound S l (firm_cells S B C l)
@@ -130,8 +132,8 @@ module _ (S B C G : List ℕ) {l : Layout} (e : granted_answer S B C G ≡ good 
     taken : is_refused 1 (firm_totals S B C l (group_of i) (day_of i)) (group_at S l (group_of i)).benchmark ≡ false
     taken = rw (within, benchmark) refl
 
-    pub day-sides : sides_or (day_sides (firm_totals S B C l (group_of i) (day_of i)) (group_at S l (group_of i)).benchmark) ≡ sides_at S B C G l i
-    day-sides = sides_there _ _ taken
+    pub day-sides : sides_or (day_sides (clamped (rules_of S)) (firm_totals S B C l (group_of i) (day_of i)) (group_at S l (group_of i)).benchmark) ≡ sides_at S B C G l i
+    day-sides = rw (rules-clamped S sound.checked) (sides_there (rules_of S) _ _ taken)
 
 -- a held month says of a place what the firm's month says
 pub held-reason : (S B C G : List ℕ) {m : Month} → GrantedIs S B C G (Ok m) → (i : ℕ) → i < places → held_reason S B m i ≡ reason_at S B C G m.layout i
@@ -141,8 +143,8 @@ held-reason S B C G {m} told i h =
     let n : (i : ℕ) → Bool = named S l C G in
     let g = held-group S l B f n m told.held in
     let fields = held-fields S l B f n m told.held in
-    let same : held_sides S B m i ≡ sides_or (day_sides (firm_totals S B C l (group_of i) (day_of i)) (group_at S l (group_of i)).benchmark)
-    = ap₂ (λ (f : ℕ) (x : Group). sides_or (day_sides (totals_in l.groups B f (group_of i) (day_of i)) x.benchmark)) told.held.firm (fields i h) in
+    let same : held_sides S B m i ≡ sides_or (day_sides (clamped (rules_of S)) (firm_totals S B C l (group_of i) (day_of i)) (group_at S l (group_of i)).benchmark)
+    = ap₂ (λ (f : ℕ) (x : Group). sides_or (day_sides (clamped (rules_of S)) (totals_in l.groups B f (group_of i) (day_of i)) x.benchmark)) told.held.firm (fields i h) in
     reason_same _ _ _ _ _ _ _ _ _ _ fields (λ k q. ap (λ (x : GroupMonth). x.grouping) (g k q)) (held-mark S l B f n m told.held) i h
     (ap (λ (x : GroupMonth). x.sums) (g i h)) (λ s. same ∙ day-sides S B C G (sym told.answer) i s)
     (mark_is (rules_of S) (granted_month S B C G l) i) refl

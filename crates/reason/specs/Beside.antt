@@ -1,4 +1,4 @@
--- The reasons of document 02, 2.7, worked out from a month's marks and exchange groupings, the groups' codes and sums, and the sides of severe days.
+-- The reasons of document 02, 2.7 and 2.9, worked out from a month's marks and exchange groupings, the groups' codes and sums, and the sides of severe days.
 -- `Explanation`, `Waiver` and `LastTwo` are types of src/.
 -- Assumes nothing.
 use Rattle.std.specs.Prelude.{ℕ, ◌+◌, Bool, ◌&&◌, List, [], ◌∷◌, ◌++◌, Option, Some, None, eqb}
@@ -49,7 +49,7 @@ abbrev pub two_up_to : (p : ℕ → Bool) → Option ℕ → LastTwo
 two_up_to p None = record { first = None; second = None }
 two_up_to p (Some k) = with_before k (last_below k p)
 
--- the last two places below n at which p holds, the earlier first
+-- the last two places below n at which p holds, the earlier first; 2.9: a missing one comes after the one there is
 abbrev pub last_two : (n : ℕ) → (p : ℕ → Bool) → LastTwo
 last_two n p = two_up_to p (last_below n p)
 
@@ -66,7 +66,7 @@ module _ (grouping marks : (i : ℕ) → ℕ) where
   abbrev pub waivers_in : (e : ℕ) → LastTwo
   waivers_in e = last_two places (is_automatic e)
 
--- the day and group code of the waiver at a place; of none, which no billed line comes to (Laws.BilledIs), zeros
+-- the day and group code of the waiver at a place; 2.9: zeros for a missing one
 abbrev pub waiver_at : (groups : (g : ℕ) → Group) → Option ℕ → Waiver
 waiver_at groups None = record { day = 0; code = 0 ∷ 0 ∷ [] }
 waiver_at groups (Some i) = record { day = day_of i; code = (groups (group_of i)).code }

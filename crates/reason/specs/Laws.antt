@@ -1,6 +1,5 @@
--- A reason is true of book and grants (document 02, 2.7). S is the schedule, l what it holds, B the book, C the firm's code, `code` the group's, G the
--- grants. Proved in proofs/Laws.antt: of all of them, and of every day, wherever the call gives a reason. The severe multiple is 6 and the waivers are 2, as
--- version 9.6 has them (`version96` in rules/specs/Verdict.antt).
+-- A reason is true of book and grants (document 02, 2.7 and 2.9). S is the schedule, l what it holds, B the book, C the firm's code, `code` the group's, G the
+-- grants. Proved in proofs/Laws.antt: of all of them, and of every day, wherever the call gives a reason.
 -- Assumes nothing.
 use Rattle.std.specs.Prelude.{ℕ, ◌+◌, ◌*◌, ◌<◌, Bool, true, false, List, [], ◌∷◌, ◌++◌, ◌≡◌}
 use Rattle.wire.specs.Sums.{count}
@@ -17,6 +16,7 @@ use Rattle.month.specs.Month.{terms, firm_totals}
 use Rattle.grants.specs.Month.{granted_month, granted_answer}
 use Rattle.reason.specs.Beside.{Reason}
 use Rattle.reason.specs.Reason.{reason_answer}
+use Rattle.reason.specs.Taken.{Taken}
 
 -- place i is that of the day, and of a listed group with the code
 pub record PlaceIs (S : List ℕ) (l : Layout) (day : ℕ) (code : List ℕ) (i : ℕ) : Type 0 where
@@ -69,7 +69,8 @@ module _ (S B C G : List ℕ) (l : Layout) where
         pub nothing_more : values ≡ []
         pub code : is_violation (j.verdict i).code ≡ false
 
-      -- 2.7, severe: the two sides are those of its cell, 100 × score and 6 × B × m × lots, m the factor of its line; and the first is above the second
+      -- 2.7, severe: the two sides are those of its cell, 100 × score and 6 × B × m × lots (2.9: the severe multiple in force in place of 6), m the
+      -- factor of its line; and the first is above the second
       pub record SevereIs : Type 0 where
         pub sides : values ≡ 100 * cell.score ∷ P.severe * benchmark * (j.verdict i).factor * cell.lots ∷ []
         pub above : P.severe * benchmark * (j.verdict i).factor * cell.lots < 100 * cell.score
@@ -89,18 +90,12 @@ module _ (S B C G : List ℕ) (l : Layout) where
         pub named : j.named i ≡ true
         pub would_cost : is_billed (mark_without_grants P j i) ≡ true
 
-      -- 2.7, billed: the sums fail the exemption; the two waivers, at the places a and b, are automatic lines of its grouping, stand before it, and no other
-      -- automatic line of the grouping stands after the earlier of them
+      -- 2.7, billed: the sums fail the exemption, and the last two automatic waivers of its grouping are shown after them
       pub record BilledIs : Type 0 where
-        pub a : ℕ
-        pub b : ℕ
-        pub shown : values ≡ month_values ++ day_and_code a ++ day_and_code b
+        pub waivers : List ℕ
+        pub shown : values ≡ month_values ++ waivers
         pub fails : meets ≡ false
-        pub first : is_waiver i a
-        pub second : is_waiver i b
-        pub earlier : a < b
-        pub before : b < i
-        pub no_other : (k : ℕ) → a < k → k < places → is_waiver i k → k ≡ b
+        pub taken : Taken places i (is_waiver i) day_and_code waivers P.waivers
 
 -- 2.7: the reason r is true of book and grants: it has the mark of its place, and what goes with the mark is so
 pub record IsTrue (S B C : List ℕ) (day : ℕ) (code G : List ℕ) (r : Reason) : Type 0 where

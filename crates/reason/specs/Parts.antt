@@ -1,10 +1,12 @@
 -- The reason for a place as a month's arrays give it. The public contract does not cite these.
 -- Assumes nothing.
 use Rattle.std.specs.Prelude.{ℕ, Bool, List, Option, Some, None, get_or}
+use Rattle.rules.specs.Constants.{clamped}
 use Rattle.rules.specs.Verdict.{day_sides}
 use Rattle.rules.specs.Marks.{day_of, group_of}
 use Rattle.rules.specs.declared.Sides.{Sides}
 use Rattle.records.specs.declared.fields.Group.{Group}
+use Rattle.lookup.specs.InForce.{rules_of}
 use Rattle.book.specs.Book.{totals_in}
 use Rattle.month.specs.Parts.{no_group, held_mark, held_fields, held_grouping}
 use Rattle.month.specs.declared.days.MonthSums.{MonthSums}
@@ -37,7 +39,7 @@ sides_or (Some s) = s
 -- those of a place's cell
 abbrev pub held_sides : (S B : List ℕ) → Month → (i : ℕ) → Sides
 held_sides S B m i =
-    sides_or (day_sides (totals_in m.layout.groups B m.firm (group_of i) (day_of i)) (held_fields S m (group_of i)).benchmark)
+    sides_or (day_sides (clamped (rules_of S)) (totals_in m.layout.groups B m.firm (group_of i) (day_of i)) (held_fields S m (group_of i)).benchmark)
 
 abbrev pub sides_in : FirmMonth → (i : ℕ) → Sides
 sides_in x = held_sides x.schedule.now x.book.now x.month.now

@@ -6,10 +6,10 @@ ghost use Rattle.reason.specs.Parts.{grouping_in, marks_in, fields_in, sides_in,
 
 use crate::{Explanation, Waiver};
 use book::cell_in;
-use lookup::group_at;
+use lookup::{group_at, rules_of};
 use month::Month;
 use records::Group;
-use rules::{GROUPS, Sides, day_sides};
+use rules::{GROUPS, Sides};
 
 // A firm's month, with the schedule and the book that it is of.
 #[derive(Clone, Copy, Debug, PartialEq, Eq)]
@@ -62,7 +62,9 @@ impl FirmMonth<'_> {
         let day = (i / GROUPS + 1) as u8;
         let groups = self.month.layout.groups;
         let cell = cell_in(self.book, groups, self.month.firm, (i % GROUPS) as u8, day);
-        day_sides(cell.totals, benchmark).unwrap_or_default()
+        rules_of(self.schedule)
+            .day_sides(cell.totals, benchmark)
+            .unwrap_or_default()
     }
 
     // What stands beside the line of place i.

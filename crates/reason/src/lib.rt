@@ -17,7 +17,7 @@ use month::MonthSums;
 use refusals::{Cause, Refusal};
 use rules::{GROUPS, Sides};
 
-// An automatic waiver: the day and the group code of its line; zeros where there is none, which no billed line has.
+// An automatic waiver: the day and the group code of its line; zeros for a missing one.
 #[derive(Clone, Copy, Debug, PartialEq, Eq, Default)]
 pub struct Waiver {
     pub day: u8,
