@@ -19,17 +19,19 @@ use Rattle.wire.proofs.Bytes.{u16_again, u32_again}
 use Rattle.wire.proofs.Choose.{none_some}
 use Rattle.wire.proofs.Sums.{sum_same, sum_add, count_most}
 use Rattle.calendar.specs.Calendar.{days_in}
-use Rattle.rules.specs.Verdict.{version96, is_violation}
+use Rattle.rules.specs.Verdict.{is_violation}
 use Rattle.rules.specs.Month.{DailyTotals}
 use Rattle.rules.specs.Marks.{places, day_of, group_of, Judged, is_billed, granted_mark, mark_without_grants, mark, violations, marked, billed, amount}
-use Rattle.rules.specs.Laws.{Laws}
-use Rattle.rules.proofs.Bills.{none_granted}
-use Rattle.rules.proofs.Laws.{falling96, laws as rules_laws}
+use Rattle.rules.proofs.Bills.{none_granted, adds_up, dollars}
+use Rattle.rules.specs.declared.Rules.{Rules}
+use native.Mathlib.Nat.{mul-le-mul}
+use Rattle.rules.proofs.Laws.{laws as rules_laws}
 use Rattle.refusals.specs.Outcome.{Outcome, refused, good, follow}
 use Rattle.std.specs.Prelude.{Some}
 use Rattle.lookup.specs.Lookup.{group_at, firm_place, firm_listed, firm_found}
 use Rattle.schedule.specs.Check.{check_of}
 use Rattle.lookup.specs.InForce.{rules_of}
+use Rattle.schedule.proofs.Found.{rules-dollars, rules-falling}
 use Rattle.lookup.specs.declared.Layout.{Layout}
 use Rattle.refusals.proofs.Outcomes.{refused-good, good_is}
 use Rattle.cell.specs.Cell.{FirmCells, cell_totals}
@@ -53,49 +55,48 @@ use Rattle.statement.proofs.Shown.{lines_length, mark_some, marks-count, bytes-l
 use Rattle.guarantee.specs.Demand3.{layout, is_listed, totals_after, month_after, amount_after, Run, answer_of, output_of, month, amount_of, GrantsTaken, Falls}
 use Rattle.guarantee.specs.Demand3.{SameGrants, TotalsAre, after_lines, AddsUp, DollarsFall, SameStatement, Demand3, SameBytes, WithoutGrants}
 
-laws96 : Laws version96
-laws96 = rules_laws version96 falling96
-
-amount_small : (j : Judged) (e : ℕ) → amount version96 j e < 4294967296
-amount_small j e = omega (arith, laws96.dollars j e, count_most places (λ i. eqb (j.grouping i) e && is_billed (mark version96 j i)))
-
 -- the totals of a month, read back, whatever stands behind them
-module _ (ys : List ℕ) (e : ℕ) (j : Judged) where
+module _ (P : Rules) (small : P.dollars ≤ 10000) (ys : List ℕ) (e : ℕ) (j : Judged) where
+  amount_small : amount P j e < 4294967296
+  amount_small =
+      let few = count_most places (λ i. eqb (j.grouping i) e && is_billed (mark P j i)) in
+      omega (arith, dollars P j e, mul-le-mul small few)
+
   totals : List ℕ
-  totals = totals_bytes e (tally version96 j.grouping (mark version96 j) e places) ++ ys
+  totals = totals_bytes e (tally P j.grouping (mark P j) e places) ++ ys
 
   abbrev such : (ℕ → Bool) → ℕ
-  such is_such = having version96 j.grouping (mark version96 j) e places is_such
+  such is_such = having P j.grouping (mark P j) e places is_such
 
   -- a count of places that stands at k
   such_there : (k : ℕ) (is_such : ℕ → Bool) → u16_at totals k ≡ u16_at (u16_bytes (such is_such)) 0 → u16_at totals k ≡ such is_such
   such_there k is_such q =
-      q ∙ u16_again (such is_such) [] (omega (arith, count_most places (λ i. eqb (j.grouping i) e && is_such (mark version96 j i))))
+      q ∙ u16_again (such is_such) [] (omega (arith, count_most places (λ i. eqb (j.grouping i) e && is_such (mark P j i))))
 
   -- the counted marks are those of the violations
   such_violations : such (λ m. not (eqb m 0)) ≡ violations j e
-  such_violations = sum_same places _ _ (λ i l. ap (λ b. bit (eqb (j.grouping i) e && b)) (mark_some version96 j i))
+  such_violations = sum_same places _ _ (λ i l. ap (λ b. bit (eqb (j.grouping i) e && b)) (mark_some P j i))
 
-  totals_are : TotalsAre version96 totals e j
+  totals_are : TotalsAre P totals e j
   unfolding totals tally u32_at u16_at
   totals_are =
       let v : totals_violations totals ≡ violations j e = such_there violations_at (λ m. not (eqb m 0)) refl ∙ such_violations in
-      let m : totals_monthly totals ≡ marked version96 j e 3 = such_there monthly_at (λ m. eqb m 3) refl in
-      let a : totals_automatic totals ≡ marked version96 j e 4 = such_there automatic_at (λ m. eqb m 4) refl in
-      let g : totals_granted totals ≡ marked version96 j e 5 = such_there granted_at (λ m. eqb m 5) refl in
-      let b : totals_billed totals ≡ billed version96 j e = such_there billed_at is_billed refl in
+      let m : totals_monthly totals ≡ marked P j e 3 = such_there monthly_at (λ m. eqb m 3) refl in
+      let a : totals_automatic totals ≡ marked P j e 4 = such_there automatic_at (λ m. eqb m 4) refl in
+      let g : totals_granted totals ≡ marked P j e 5 = such_there granted_at (λ m. eqb m 5) refl in
+      let b : totals_billed totals ≡ billed P j e = such_there billed_at is_billed refl in
       record {
         length = refl;
         kind = refl;
         grouping = refl;
         zero = refl;
-        adds = v ∙ laws96.adds_up j e ∙ sym (ap₂ ◌+◌ (ap₂ ◌+◌ (ap₂ ◌+◌ m a) g) b);
+        adds = v ∙ adds_up P j e ∙ sym (ap₂ ◌+◌ (ap₂ ◌+◌ (ap₂ ◌+◌ m a) g) b);
         violations_are = v;
         monthly_are = m;
         automatic_are = a;
         granted_are = g;
         billed_are = b;
-        dollars_are = u32_again (amount version96 j e) [] (amount_small j e);
+        dollars_are = u32_again (amount P j e) [] amount_small;
       }
 
 -- a violation is counted in one of two groupings, where it is of just one
@@ -107,7 +108,10 @@ one_of : (x : ℕ) → within 1 2 x ≡ true → bit (eqb x 1) + bit (eqb x 2) �
 one_of x w = ⊎_elim (λ p. rw p) (λ p. rw p) (one_or_two x w)
 
 -- the bytes of a month whose violations are all of the grouping 1 or 2
-module _ (S : List ℕ) (l : Layout) (j : Judged) (grouped : Grouped j) where
+module _ (S : List ℕ) (l : Layout) (small : (rules_of S).dollars ≤ 10000) (j : Judged) (grouped : Grouped j) where
+  abbrev P : Rules
+  P = rules_of S
+
   in_groupings : count places (λ i. is_violation (j.verdict i).code) ≡ violations j 1 + violations j 2
   in_groupings =
       sum_same places _ _ (λ i h.
@@ -115,30 +119,30 @@ module _ (S : List ℕ) (l : Layout) (j : Judged) (grouped : Grouped j) where
       ∙ sum_add places (λ i. bit (eqb (j.grouping i) 1 && is_violation (j.verdict i).code)) (λ i. bit (eqb (j.grouping i) 2 && is_violation (j.verdict i).code))
 
   abbrev front : List ℕ
-  front = lines version96 (group_at S l) (mark version96 j) (λ i. (j.verdict i).factor)
+  front = lines P (group_at S l) (mark P j) (λ i. (j.verdict i).factor)
 
   lines_end : length front ≡ after_lines j
-  lines_end = lines_length version96 (group_at S l) (mark version96 j) _ places ∙ ap (λ (n : ℕ). line_size * n) (marks-count version96 j ∙ in_groupings)
+  lines_end = lines_length P (group_at S l) (mark P j) _ places ∙ ap (λ (n : ℕ). line_size * n) (marks-count P j ∙ in_groupings)
 
   bytes_end : length (statement_bytes S l j) ≡ after_lines j + both_totals
   bytes_end = bytes-length S l j ∙ ap (λ (n : ℕ). line_size * n + both_totals) in_groupings
 
   abbrev totals_of : (e : ℕ) → List ℕ
-  totals_of e = totals_bytes e (tally version96 j.grouping (mark version96 j) e places)
+  totals_of e = totals_bytes e (tally P j.grouping (mark P j) e places)
 
   -- each totals record stands behind what comes before it
-  totals_behind : (xs ys : List ℕ) (e : ℕ) {bs : List ℕ} {at : ℕ} → bs ≡ xs ++ (totals_of e ++ ys) → length xs ≡ at → TotalsAre version96 (drop at bs) e j
+  totals_behind : (xs ys : List ℕ) (e : ℕ) {bs : List ℕ} {at : ℕ} → bs ≡ xs ++ (totals_of e ++ ys) → length xs ≡ at → TotalsAre P (drop at bs) e j
   unfolding totals
-  totals_behind xs ys e {bs} {at} b a = rw (b, drop_at xs (totals_of e ++ ys) at a) (totals_are ys e j)
+  totals_behind xs ys e {bs} {at} b a = rw (b, drop_at xs (totals_of e ++ ys) at a) (totals_are P small ys e j)
 
-  first-totals : (ys : List ℕ) → TotalsAre version96 (drop (after_lines j) (statement_bytes S l j ++ ys)) 1 j
+  first-totals : (ys : List ℕ) → TotalsAre P (drop (after_lines j) (statement_bytes S l j ++ ys)) 1 j
   unfolding shown
   first-totals ys =
       totals_behind front (totals_of 2 ++ ys) 1
       (append_assoc (front ++ totals_of 1) (totals_of 2) ys ∙ append_assoc front (totals_of 1) (totals_of 2 ++ ys))
       lines_end
 
-  second-totals : (ys : List ℕ) → TotalsAre version96 (drop (after_lines j + totals_size) (statement_bytes S l j ++ ys)) 2 j
+  second-totals : (ys : List ℕ) → TotalsAre P (drop (after_lines j + totals_size) (statement_bytes S l j ++ ys)) 2 j
   unfolding shown
   second-totals ys =
       totals_behind (front ++ totals_of 1) ys 2
@@ -160,7 +164,7 @@ module _ (S B C G out : List ℕ) (l : Layout) (judged : granted_answer S B C G 
       go false t = record { answer = rw (judged, t); output = rw (judged, t) }
 
 -- a book that open takes: the schedule is good, and the book has the numbers that it asks for
-opens : (S B : List ℕ) → open_answer S B ≡ good tt → Sized S (length B) (layout S)
+pub opens : (S B : List ℕ) → open_answer S B ≡ good tt → Sized S (length B) (layout S)
 opens S B = by (check_book S (length B)) refl
   where
     by : (r : Outcome Layout) → check_book S (length B) ≡ r → follow r (λ l. good (tt {0})) ≡ good tt → Sized S (length B) (layout S)
@@ -262,10 +266,11 @@ module _ (S C : List ℕ) (listed : is_listed S C ≡ true) where
       let s = opens S p.book p.opened in
       let j : Judged = month S C p in
       let grouped : Grouped j = λ i h. month_grouped S s.schedule (totals_after S C p.posts) i in
+      let small = rules-dollars S s.schedule in
       record {
-        answered = (run p c).answer ∙ ap good (bytes_end S (layout S) j grouped);
-        first = rw (run p c).output (first-totals S (layout S) j grouped (rest p));
-        second = rw (run p c).output (second-totals S (layout S) j grouped (rest p));
+        answered = (run p c).answer ∙ ap good (bytes_end S (layout S) small j grouped);
+        first = rw (run p c).output (first-totals S (layout S) small j grouped (rest p));
+        second = rw (run p c).output (second-totals S (layout S) small j grouped (rest p));
       }
 
   bytes_first : (p : Run S C) (n : ℕ) → cause_of p ≡ 0 → length (bytes_after S C p.posts p.grants) ≡ n
@@ -311,7 +316,8 @@ module _ (S C : List ℕ) (listed : is_listed S C ≡ true) where
   module _ (p q : Run S C) (h : Falls S C p.posts q.posts) (g : SameGrants S C p q) where
     lighter : (e : ℕ) → amount_of S C q e ≤ amount_of S C p e
     lighter e =
-        let falls = laws96.lighter_amount (terms S (layout S)) (totals_after S C q.posts) (totals_after S C p.posts) in
+        let P = rules_of S in
+        let falls = (rules_laws P (rules-falling S (opens S p.book p.opened).schedule)).lighter_amount (terms S (layout S)) (totals_after S C q.posts) (totals_after S C p.posts) in
         subst (λ (G : List ℕ). amount_after S C q.posts G e ≤ amount_of S C p e) g.same (falls (named S (layout S) C p.grants) h g.none_severe e)
 
     lighter_dollars : DollarsFall S C p q

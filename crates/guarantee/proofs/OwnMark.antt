@@ -18,17 +18,18 @@ use Rattle.wire.proofs.Bools.{never}
 use Rattle.wire.proofs.Choose.{some_at, none_some, sought}
 use Rattle.wire.proofs.Counts.{Numbered, numbered, count_before, count_order}
 use Rattle.calendar.specs.Calendar.{has_day, in_effect}
-use Rattle.rules.specs.Verdict.{version96, is_violation}
+use Rattle.rules.specs.Verdict.{is_violation}
 use Rattle.rules.specs.Marks.{places, day_of, group_of, Judged, mark}
 use Rattle.rules.proofs.Marks.{on_place, mark-none}
 use Rattle.records.specs.Fields.{group_fields}
 use Rattle.refusals.specs.Outcome.{Outcome, refused, good, follow}
 use Rattle.lookup.specs.Lookup.{group_at, group_is, group_listed, group_place}
+use Rattle.lookup.specs.InForce.{rules_of}
 use Rattle.lookup.specs.declared.Layout.{Layout}
 use Rattle.schedule.specs.Check.{check_of}
 use Rattle.refusals.proofs.Outcomes.{refused-good}
 use Rattle.schedule.proofs.Good.{good-schedule}
-use Rattle.schedule.proofs.Found.{group-own}
+use Rattle.schedule.proofs.Found.{group-own, rules-dollars}
 use Rattle.book.proofs.Checked.{sized}
 use Rattle.grants.specs.Month.{granted_month, granted_answer}
 use Rattle.grants.proofs.Answers.{granted-book}
@@ -37,11 +38,12 @@ use Rattle.statement.specs.Statement.{statement_bytes, need, statement_answer, s
 use Rattle.statement.proofs.Shown.{two_letters, bytes-length}
 use Rattle.reason.specs.Beside.{Reason}
 use Rattle.reason.specs.Reason.{reason_answer}
-use Rattle.reason.specs.Laws.{PlaceIs, BilledIs, IsTrue}
+use Rattle.reason.specs.Taken.{missing, TwoTaken, OneTaken, NoneTaken}
+use Rattle.reason.specs.Laws.{PlaceIs, is_waiver as place_waiver, day_and_code, BilledIs, IsTrue}
 use Rattle.reason.proofs.Laws.{laws}
 use Rattle.guarantee.specs.Demand3.{layout}
 use Rattle.guarantee.specs.EachLine.{LineIs}
-use Rattle.guarantee.specs.OwnMark.{line_code, is_for, grouping_of, lines_in, line_of, has_line, WaiverLines, Agrees, Own, OwnMark}
+use Rattle.guarantee.specs.OwnMark.{is_waiver, named, line_code, is_for, grouping_of, lines_in, line_of, has_line, WaiverLines, Agrees, Own, OwnMark}
 use Rattle.guarantee.proofs.EachLine.{line_read}
 
 -- a statement that is written shows the month of what the schedule holds
@@ -113,8 +115,8 @@ module _ (S B C G out : List ℕ) {l : Layout} {n : ℕ} (q : granted_answer S B
       omega (arith, size)
 
   -- the line of a violation
-  read : (i : ℕ) → i < places → fails i ≡ true → LineIs version96 (line_at (number i)) (day_of i) (group_at S l (group_of i)) (mark version96 j i) (j.verdict i)
-  read i h v = rw w.output (line_read S l j i h v (drop (length (statement_bytes S l j)) out))
+  read : (i : ℕ) → i < places → fails i ≡ true → LineIs (rules_of S) (line_at (number i)) (day_of i) (group_at S l (group_of i)) (mark (rules_of S) j i) (j.verdict i)
+  read i h v = rw w.output (line_read S l (rules-dollars S checked) j i h v (drop (length (statement_bytes S l j)) out))
 
   on : (i : ℕ) → fails i ≡ true → (ltb (group_of i) l.groups && in_effect l.month l.closed (day_of i)) ≡ true
   on i v = on_place is_violation refl _ _ v
@@ -186,7 +188,7 @@ module _ (S B C G out : List ℕ) {l : Layout} {n : ℕ} (q : granted_answer S B
           let d : line_day (line_at (number p)) ≡ day = (read p at.inside v).day_is ∙ at.day_is in
           rw (eq-eqb _ _ d) ((bytes_eq-Decides (line_code (line_at (number p))) code).1 (code-is p at.inside v ∙ at.code_is))
 
-      marked : (k : ℕ) → Tells k → line_mark (line_at k) ≡ mark version96 j p
+      marked : (k : ℕ) → Tells k → line_mark (line_at k) ≡ mark (rules_of S) j p
       marked k t =
           let same = its_place k t in
           rw (← t.at.number, ← same) (read t.i t.at.inside t.at.holds).mark_is
@@ -216,11 +218,11 @@ module _ (S B C G out : List ℕ) (day : ℕ) (code : List ℕ) {n : ℕ} {r : R
   its_number i = count i fails_at
 
   is_marked : not (eqb r.mark 0) ≡ fails_at is.i
-  is_marked = ap (λ (m : ℕ). not (eqb m 0)) is.mark_is ∙ ap not (mark-none version96 J is.i) ∙ not-not (fails_at is.i)
+  is_marked = ap (λ (m : ℕ). not (eqb m 0)) is.mark_is ∙ ap not (mark-none (rules_of S) J is.i) ∙ not-not (fails_at is.i)
 
   -- a place with a mark is a violation
-  is-violation : (i m : ℕ) → mark version96 J i ≡ m → eqb m 0 ≡ false → fails_at i ≡ true
-  is-violation i m q z = not-false (fails_at i) (sym (mark-none version96 J i) ∙ ap (λ (k : ℕ). eqb k 0) q ∙ z)
+  is-violation : (i m : ℕ) → mark (rules_of S) J i ≡ m → eqb m 0 ≡ false → fails_at i ≡ true
+  is-violation i m q z = not-false (fails_at i) (sym (mark-none (rules_of S) J i) ∙ ap (λ (k : ℕ). eqb k 0) q ∙ z)
 
   module _ (m : r.mark ≡ 2) where
     b : BilledIs S B C G is.l is.i r.values
@@ -228,18 +230,6 @@ module _ (S B C G out : List ℕ) (day : ℕ) (code : List ℕ) {n : ℕ} {r : R
 
     own : fails_at is.i ≡ true
     own = is-violation is.i 2 (sym is.mark_is ∙ m) refl
-
-    in_b : b.b < places
-    in_b = omega (arith, b.before, is.place.inside)
-
-    in_a : b.a < places
-    in_a = omega (arith, b.earlier, in_b)
-
-    first : fails_at b.a ≡ true
-    first = is-violation b.a 4 b.first.1 refl
-
-    second : fails_at b.b ≡ true
-    second = is-violation b.b 4 b.second.1 refl
 
     -- the grouping of the group with the code
     own-grouping : grouping_of S code ≡ J.grouping is.i
@@ -250,7 +240,7 @@ module _ (S B C G out : List ℕ) (day : ℕ) (code : List ℕ) {n : ℕ} {r : R
     grouping = grouping-of S B C G out is.holds written
 
     shows : (i : ℕ) → i < places → fails_at i ≡ true
-        → LineIs version96 (line_of (statement_output S B C G out) (its_number i)) (day_of i) (group_at S is.l (group_of i)) (mark version96 J i) (J.verdict i)
+        → LineIs (rules_of S) (line_of (statement_output S B C G out) (its_number i)) (day_of i) (group_at S is.l (group_of i)) (mark (rules_of S) J i) (J.verdict i)
     shows = read S B C G out is.holds written
 
     codes : (i : ℕ) → i < places → fails_at i ≡ true
@@ -263,34 +253,93 @@ module _ (S B C G out : List ℕ) (day : ℕ) (code : List ℕ) {n : ℕ} {r : R
         ≡ day_of i ∷ (group_at S is.l (group_of i)).code
     names i h v = ap₂ (λ (d : ℕ) (c : List ℕ). d ∷ c) (shows i h v).day_is (codes i h v)
 
-    other-place : (k : ℕ) → its_number b.a < k
-        → (line_mark (line_of (statement_output S B C G out) k) ≡ 4)
-        × (grouping_of S (line_code (line_of (statement_output S B C G out) k)) ≡ grouping_of S code)
-        → (i : ℕ) × Numbered places fails_at k i → k ≡ its_number b.b
-    other-place k h is4 (i, at) =
-        let there : its_number b.a < its_number i = rw at.number h in
-        let marked : mark version96 J i ≡ 4
-        = sym (shows i at.inside at.holds).mark_is ∙ ap (λ (x : ℕ). line_mark (line_of (statement_output S B C G out) x)) at.number ∙ is4.0 in
-        let of : J.grouping i ≡ J.grouping is.i
-        = sym (grouping i at.inside at.holds)
-        ∙ ap (λ (x : ℕ). grouping_of S (line_code (line_of (statement_output S B C G out) x))) at.number ∙ is4.1 ∙ own-grouping in
-        sym at.number ∙ ap its_number (b.no_other i (count_order fails_at b.a i there) at.inside (of, marked))
+    -- an automatic line of the grouping at a place, and at a line
+    abbrev at_place : (i : ℕ) → Type 0
+    at_place i = place_waiver S B C G is.l is.i i
+
+    abbrev at_line : (k : ℕ) → Type 0
+    at_line k = is_waiver S (statement_output S B C G out) n day code k
+
+    fails-there : (i : ℕ) → at_place i → fails_at i ≡ true
+    fails-there i w = is-violation i 4 w.1 refl
+
+    to_line : (i : ℕ) → i < places → at_place i → at_line (its_number i)
+    to_line i h w =
+        let v = fails-there i w in
+        ((shows i h v).mark_is ∙ w.1, grouping i h v ∙ w.0 ∙ sym own-grouping)
+
+    -- the place of an automatic line
+    from_line : (k : ℕ) → at_line k → (i : ℕ) → Numbered places fails_at k i → at_place i
+    from_line k is4 i at = (
+      sym (grouping i at.inside at.holds)
+      ∙ ap (λ (x : ℕ). grouping_of S (line_code (line_of (statement_output S B C G out) x))) at.number ∙ is4.1 ∙ own-grouping,
+      sym (shows i at.inside at.holds).mark_is ∙ ap (λ (x : ℕ). line_mark (line_of (statement_output S B C G out) x)) at.number ∙ is4.0,
+    )
+
+    abbrev code_at : (k : ℕ) → List ℕ
+    code_at = named S (statement_output S B C G out) n day code
+
+    named-at : (i : ℕ) → i < places → at_place i → code_at (its_number i) ≡ day_of i ∷ (group_at S is.l (group_of i)).code
+    named-at i h w = names i h (fails-there i w)
+
+    abbrev L : ℕ
+    L = lines_in n
+
+    its-place : (k : ℕ) → k < L → (i : ℕ) × Numbered places fails_at k i
+    its-place k l = place S B C G out is.holds written k l
+
+    module _ (shown : List ℕ) where
+      two-lines : TwoTaken places is.i at_place (day_and_code S B C G is.l) shown
+          → TwoTaken L (its_number is.i) at_line code_at shown
+      two-lines t =
+          let in_b : t.b < places = omega (arith, t.before, is.place.inside) in
+          let in_a : t.a < places = omega (arith, t.earlier, in_b) in
+          record {
+            a = its_number t.a;
+            b = its_number t.b;
+            are = t.are ∙ sym (ap₂ (λ (xs ys : List ℕ). xs ++ ys) (named-at t.a in_a t.first) (named-at t.b in_b t.second));
+            first = to_line t.a in_a t.first;
+            second = to_line t.b in_b t.second;
+            earlier = count_before t.b fails_at t.a t.earlier (fails-there t.a t.first);
+            before = count_before is.i fails_at t.b t.before (fails-there t.b t.second);
+            no_other =
+                λ k h l w.
+                let (i, at) = its-place k l in
+                let later : its_number t.a < its_number i = rw at.number h in
+                sym at.number ∙ ap its_number (t.no_other i (count_order fails_at t.a i later) at.inside (from_line k w i at));
+          }
+
+      one-line : OneTaken places is.i at_place (day_and_code S B C G is.l) shown
+          → OneTaken L (its_number is.i) at_line code_at shown
+      one-line t =
+          let in_a : t.a < places = omega (arith, t.before, is.place.inside) in
+          record {
+            a = its_number t.a;
+            are = t.are ∙ sym (ap (λ (xs : List ℕ). xs ++ missing) (named-at t.a in_a t.first));
+            first = to_line t.a in_a t.first;
+            before = count_before is.i fails_at t.a t.before (fails-there t.a t.first);
+            no_other = λ k l w. let (i, at) = its-place k l in sym at.number ∙ ap its_number (t.no_other i at.inside (from_line k w i at));
+          }
+
+      no-lines : NoneTaken places is.i at_place (day_and_code S B C G is.l) shown
+          → NoneTaken L (its_number is.i) at_line code_at shown
+      no-lines t =
+          record { are = t.are; no_other = λ k l w. let (i, at) = its-place k l in t.no_other i at.inside (from_line k w i at) }
 
     waiver-lines : WaiverLines S (statement_output S B C G out) n day code r.values
-    unfolding group_fields
     waiver-lines =
+        let same : drop 4 r.values ≡ b.waivers = ap (drop 4) b.shown in
         record {
-          k₁ = its_number b.a;
-          k₂ = its_number b.b;
           k = its_number is.i;
-          named = ap (drop 4) b.shown ∙ sym (ap₂ (λ (xs ys : List ℕ). xs ++ ys) (names b.a in_a first) (names b.b in_b second));
-          first = ((shows b.a in_a first).mark_is ∙ b.first.1, grouping b.a in_a first ∙ b.first.0 ∙ sym own-grouping);
-          second = ((shows b.b in_b second).mark_is ∙ b.second.1, grouping b.b in_b second ∙ b.second.0 ∙ sym own-grouping);
           own = own_line S B C G out is.holds written day code is.i is.place own;
-          earlier = count_before b.b fails_at b.a b.earlier first;
-          before = count_before is.i fails_at b.b b.before second;
           inside = rw (lines-are S B C G out is.holds written) (count_before places fails_at is.i is.place.inside own);
-          no_other = λ q h l x. other-place q h x (place S B C G out is.holds written q l);
+          taken =
+              rw same
+              (record {
+                two = λ h. two-lines b.waivers (b.taken.two h);
+                one = λ h. one-line b.waivers (b.taken.one h);
+                none = λ h. no-lines b.waivers (b.taken.none h);
+              });
         }
 
   agrees : Agrees S (statement_output S B C G out) n day code r

@@ -1,16 +1,18 @@
--- The reason's mark is the statement's own, in the bytes that the statement writes (document 02, 2.7): of every book, and not only of those that posts leave.
+-- The reason's mark is the statement's own, in the bytes that the statement writes (document 02, 2.7 and 2.9): of every book, and not only of those that posts leave.
 -- S is the schedule, B the book, C the firm's code, G the grants, out the output before and out' after the statement, `code` a group's code. Proved in
 -- proofs/OwnMark.antt: of all of them, and of every day.
 -- Assumes nothing.
-use Rattle.std.specs.Prelude.{ℕ, ◌-◌, ◌*◌, ◌/◌, ◌<◌, Bool, true, false, not, ◌&&◌, List, [], ◌∷◌, ◌++◌, ◌≡◌, eqb, drop}
+use Rattle.std.specs.Prelude.{ℕ, ◌-◌, ◌*◌, ◌/◌, ◌<◌, Bool, true, false, not, ◌&&◌, List, [], ◌∷◌, ◌≡◌, eqb, drop}
 use Rattle.std.specs.Str.{bytes_eq}
 use Rattle.wire.specs.Choose.{some, within}
 use Rattle.refusals.specs.Outcome.{Outcome, refused, good}
 use Rattle.lookup.specs.Lookup.{group_at, group_place}
+use Rattle.lookup.specs.InForce.{rules_of}
 use Rattle.statement.specs.Layout.{line_size, both_totals, line_day, line_first, line_second, line_mark}
 use Rattle.statement.specs.Statement.{statement_answer, statement_output}
 use Rattle.reason.specs.Beside.{Reason}
 use Rattle.reason.specs.Reason.{reason_answer}
+use Rattle.reason.specs.Taken.{Taken}
 use Rattle.guarantee.specs.Demand3.{layout}
 
 -- Statement, a line: its group's code
@@ -47,20 +49,17 @@ module _ (S out' : List ℕ) (written day : ℕ) (code : List ℕ) where
   abbrev pub is_waiver : (k : ℕ) → Type 0
   is_waiver k = (line_mark (line k) ≡ 4) × (grouping_of S (line_code (line k)) ≡ grouping_of S code)
 
-  -- 2.7, billed: the values end, after R, S, V and d, with the days and group codes of two lines of the statement, k₁ and k₂. They have mark 4 in that
-  -- grouping, the earlier first, stand before the day's own line, and no other automatic line of the grouping stands after the earlier of them
+  -- 2.7: the day and group code that line k has
+  abbrev pub named : (k : ℕ) → List ℕ
+  named k = line_day (line k) ∷ line_code (line k)
+
+  -- 2.7 and 2.9, billed: the values end, after R, S, V and d, with the days and group codes of the last two automatic lines of the statement in that grouping,
+  -- which stand before the day's own line, and with zeros for each missing one
   pub record WaiverLines (values : List ℕ) : Type 0 where
-    pub k₁ : ℕ
-    pub k₂ : ℕ
     pub k : ℕ
-    pub named : drop 4 values ≡ (line_day (line k₁) ∷ line_code (line k₁)) ++ (line_day (line k₂) ∷ line_code (line k₂))
-    pub first : is_waiver k₁
-    pub second : is_waiver k₂
     pub own : is_for day code (line k) ≡ true
-    pub earlier : k₁ < k₂
-    pub before : k₂ < k
     pub inside : k < lines_in written
-    pub no_other : (q : ℕ) → k₁ < q → q < lines_in written → is_waiver q → q ≡ k₂
+    pub taken : Taken (lines_in written) k is_waiver named (drop 4 values) (rules_of S).waivers
 
   -- 2.7: the statement has a line for that day and group exactly when the reason is a violation, and that line's mark is the reason's
   pub record Agrees (r : Reason) : Type 0 where

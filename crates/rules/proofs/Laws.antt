@@ -53,6 +53,7 @@ lawful_sets =
           let f = h.1.1.1 in
           rw (least_is 1 10 P.factor1 f.0, least_is 1 10 P.factor2 f.1.0, least_is 1 10 P.factor3 f.1.1.0, least_is 1 20 P.severe f.1.1.1.0) refl;
       falls = λ P e. let h = each _ e in record { second = leb-true _ _ h.1.1.0; third = leb-true _ _ h.1.1.1.0 };
+      dollars_fit = λ P e. let h = each _ e in (range 1 10000 P.dollars h.1.1.1.1.1.1.1.1.0).most;
       of_96 = lawful96;
     }
 

@@ -38,10 +38,11 @@ pub record Laws (P : Rules) : Type 0 where
   -- and the amount is that of the billed
   pub dollars : (j : Judged) (e : ℕ) → amount P j e ≡ P.dollars * billed P j e
 
--- 2.9: every lawful set judges as it stands, and keeps what the laws ask of it; version 9.6's numbers are one
+-- 2.9: every lawful set judges as it stands, keeps what the laws ask of it, and has dollars of which 992 fit 32 bits; version 9.6's numbers are one
 pub record LawfulSets : Type 0 where
   pub as_it_is : (P : Rules) → in_range P ≡ true → clamped P ≡ P
   pub falls : (P : Rules) → in_order P ≡ true → Falling P
+  pub dollars_fit : (P : Rules) → in_range P ≡ true → P.dollars ≤ 10000
   pub of_96 : is_lawful version96 ≡ true
 
 -- the verdict that is read back from the panel's number

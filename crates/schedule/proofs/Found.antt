@@ -1,6 +1,6 @@
 -- A search by code in a good schedule finds the only record of its kind that has the code: no code is repeated. A listed group's fields are in range, and
 -- the constants in force are a lawful set.
-use Prim.Native.Nat.{ℕ, ◌<◌}
+use Prim.Native.Nat.{ℕ, ◌≤◌, ◌<◌}
 use mathlib.Core.Bool.{Bool, true, false}
 use mathlib.Core.List.{List}
 use mathlib.Core.Path.{◌≡◌, refl, sym, ap, ◌∙◌}
@@ -56,9 +56,12 @@ module _ (S : List ℕ) {l : Layout} (e : check_of S ≡ good l) where
   pub group-listed : (g : ℕ) → g < l.groups → InRange (group_at S l g)
   group-listed g h = in_range (group_at S l g) ((good-schedule S e).ranges g h)
 
-  -- 2.9: the constants in force are judged by as they are, and their factors do not grow
+  -- 2.9: the constants in force are judged by as they are, their dollars fit, and their factors do not grow
   pub rules-clamped : clamped (rules_of S) ≡ rules_of S
   rules-clamped = lawful_sets.as_it_is (rules_of S) (good-schedule S e).ranged
+
+  pub rules-dollars : (rules_of S).dollars ≤ 10000
+  rules-dollars = lawful_sets.dollars_fit (rules_of S) (good-schedule S e).ranged
 
   pub rules-falling : Falling (rules_of S)
   rules-falling = lawful_sets.falls (rules_of S) (good-schedule S e).ordered
