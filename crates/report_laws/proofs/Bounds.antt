@@ -18,7 +18,8 @@ use Rattle.wire.proofs.Choose.{small, choose_most}
 use Rattle.wire.proofs.Cut.{cut-none}
 use Rattle.wire.proofs.Lists.{joined_most}
 use Rattle.wire.proofs.Sums.{count_blocks}
-use Rattle.rules.specs.Verdict.{version96, not_judged, verdict, is_violation}
+use Rattle.lookup.specs.InForce.{rules_of}
+use Rattle.rules.specs.Verdict.{not_judged, verdict, is_violation}
 use Rattle.rules.specs.Month.{DailyTotals}
 use Rattle.rules.specs.Marks.{places, day_of, group_of, no_grants}
 use Rattle.records.specs.Fields.{firm_fields}
@@ -94,7 +95,7 @@ violations_most : (S : List ℕ) (l : Layout) (c : DailyTotals) → count places
 violations_most S l c = count_blocks (λ i. is_violation ((month_of S l c no_grants).verdict i).code) l.groups (λ i. go i (ltb (group_of i) l.groups) refl) 31
   where
     go : (i : ℕ) (b : Bool) → ltb (group_of i) l.groups ≡ b
-        → is_violation (cond (b && (terms S l).in_effect (day_of i)) (verdict version96 (group_at S l (group_of i)).benchmark 1 (c (group_of i) (day_of i))) not_judged).code ≡ true
+        → is_violation (cond (b && (terms S l).in_effect (day_of i)) (verdict (rules_of S) (group_at S l (group_of i)).benchmark 1 (c (group_of i) (day_of i))) not_judged).code ≡ true
         → group_of i < l.groups
     go i true e v = ltb-true _ _ e
     go i false e v = absurd (false≢true v)

@@ -9,7 +9,8 @@ use Rattle.std.specs.Cmp.{first_so}
 use Rattle.wire.specs.Choose.{all}
 use Rattle.wire.specs.Lists.{keep, joined, table}
 use Rattle.wire.proofs.Choose.{every}
-use Rattle.rules.specs.Verdict.{version96, verdict, limit, fits, is_benchmark, decided, days_verdict}
+use Rattle.rules.specs.declared.Rules.{Rules}
+use Rattle.rules.specs.Verdict.{verdict, limit, fits, is_benchmark, decided, days_verdict}
 use Rattle.rules.proofs.Codes.{days-decided}
 use Rattle.rules.specs.declared.Totals.{Totals}
 use Rattle.refusals.specs.Outcome.{good}
@@ -154,7 +155,7 @@ unfolding all
 any-window w t places =
     record {
       held_after = λ r h. ap held (after_stored w t r h) ∙ last_stored w t places (taken w t r);
-      has_verdict = λ h B e b. go (is_refused w t) refl h B e b;
+      has_verdict = λ P h B e b. go (is_refused w t) refl P h B e b;
     }
   where
     held_fit : is_refused w t ≡ false → (b : Bool) → has_messages t ≡ b
@@ -168,14 +169,14 @@ any-window w t places =
         rw (after_stored w t r h, last_stored w t places k)
         (all_drop (fits 1) (length (held w ++ t ∷ []) - most_days) (held w ++ t ∷ []) e, simp (length-drop, length-append, length_held w t k) (omega (arith, k.placed.count)))
 
-    go : (b : Bool) → is_refused w t ≡ b → (h : WindowSums) (B : ℕ) → push_answer w t ≡ good h → is_benchmark B ≡ true
-        → days_verdict h.days h.totals B ≡ decided (verdict version96 B h.days h.totals)
-    go true r h B e b = absurd (refused-good (sym (answer_refused w t r) ∙ e))
-    go false r h B e b =
+    go : (b : Bool) → is_refused w t ≡ b → (P : Rules) (h : WindowSums) (B : ℕ) → push_answer w t ≡ good h → is_benchmark B ≡ true
+        → days_verdict P h.days h.totals B ≡ decided (verdict P B h.days h.totals)
+    go true r P h B e b = absurd (refused-good (sym (answer_refused w t r) ∙ e))
+    go false r P h B e b =
         let f = held_fit r (has_messages t) refl in
         let s : summed (held (window_after w t)) ≡ h = good_is (sym (answer_good w t r) ∙ e) in
-        subst (λ (h : WindowSums). days_verdict h.days h.totals B ≡ decided (verdict version96 B h.days h.totals)) s
-        (days-decided _ _ B (omega (arith, f.1)) (sums_taken (held (window_after w t)) f.0) b)
+        subst (λ (h : WindowSums). days_verdict P h.days h.totals B ≡ decided (verdict P B h.days h.totals)) s
+        (days-decided P _ _ B (omega (arith, f.1)) (sums_taken (held (window_after w t)) f.0) b)
 
 pub laws : Laws
 laws = record { starts_empty = starts-empty; after_days = after-days; any_window = any-window }

@@ -4,7 +4,8 @@
 use Rattle.std.specs.Prelude.{ℕ, ◌-◌, ◌≤◌, Bool, true, false, not, ◌&&◌, List, [], ◌∷◌, ◌++◌, ◌≡◌, length, drop}
 use mathlib.Core.List.{foldl}
 use Rattle.wire.specs.Lists.{keep}
-use Rattle.rules.specs.Verdict.{version96, verdict, fits, is_benchmark, decided, days_verdict}
+use Rattle.rules.specs.Verdict.{verdict, fits, is_benchmark, decided, days_verdict}
+use Rattle.rules.specs.declared.Rules.{Rules}
 use Rattle.rules.specs.declared.Totals.{Totals}
 use Rattle.refusals.specs.Outcome.{good}
 use Rattle.window.specs.Window.{most_days, empty, summed, has_messages, held, is_refused, window_after, push_answer}
@@ -53,9 +54,9 @@ pub record AfterDays (w : Window) (days : List Totals) : Type 0 where
 pub record AnyWindow (w : Window) (t : Totals) : Type 0 where
   -- a counted day comes behind the days held, and once twenty are held the oldest leaves
   pub held_after : is_refused w t ≡ false → has_messages t ≡ true → held (window_after w t) ≡ last most_days (held w ++ t ∷ [])
-  -- the verdict on totals of several days takes the sums that are answered, with any benchmark in range
-  pub has_verdict : (h : WindowSums) (B : ℕ) → push_answer w t ≡ good h → is_benchmark B ≡ true
-      → days_verdict h.days h.totals B ≡ decided (verdict version96 B h.days h.totals)
+  -- the verdict on totals of several days takes the sums that are answered, by any constants and with any benchmark in range
+  pub has_verdict : (P : Rules) (h : WindowSums) (B : ℕ) → push_answer w t ≡ good h → is_benchmark B ≡ true
+      → days_verdict P h.days h.totals B ≡ decided (verdict P B h.days h.totals)
 
 pub record Laws : Type 0 where
   pub starts_empty : IsEmpty empty
