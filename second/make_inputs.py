@@ -9,7 +9,7 @@ import sys
 from make_cases import Script, activity, correction, firm, grant, group, head
 from make_months import (CELLS, POSTED, TOP, codes, day_totals, dense_month, full_cell, odd_record, other_totals, put_in,
                          quiet_month, random_group, shape, trade, whole_month)
-from mep_second import LIMIT, days_in, le, output_need, per_firm_group, width
+from mep_second import LIMIT, V96, days_in, le, output_need, per_firm_group, width
 
 ROOM = 65_536           # bytes that mep-statement takes
 SCRIPT_ROOM = 262_144   # bytes of a script that cases takes
@@ -56,7 +56,8 @@ def of_size(r, size):
     month = trade(r, quiet_month(r, r.randint(1, 3), r.randint(1, 3)), r.choice((0, 50_000)))
     g = month.groups[0]
     usual = activity(month.firms[0], 1, g.code, g.listed[0], (3, 2, 1, 1, 0, 0, 0, 1))
-    corrected = correction(month.firms[0], r.choice((1, 2)), g.code, r.choice((1, 2, TOP)), other_totals(r, g.benchmark))
+    corrected = correction(month.firms[0], r.choice((1, 2)), g.code, r.choice((1, 2, TOP)),
+                           other_totals(r, month.constants(), g.benchmark))
     more = r.choice((usual, usual, corrected, corrected + usual, firm(b"ABC"), le(4, 2) + le(r.choice((4, 8, 9)), 2)))
     data = month.bytes()
     data += more * ((size - len(data)) // len(more))
@@ -99,8 +100,7 @@ def bad_group(r, code):
 
 def faulty(r, month):
     """A schedule that one cause refuses, or two; by chance none."""
-    first, *rest = month.schedule()
-    heads, groups, firms = [first], rest[:len(month.groups)], rest[len(month.groups):]
+    heads, rules, groups, firms = month.parts()
     fault = r.randrange(10)
     if fault == 0:
         heads = r.choice(([], heads * 2, [head(r.choice((23_999, 25_200)))], [head(size=r.choice((9, 11)))]))
@@ -123,7 +123,7 @@ def faulty(r, month):
         firms = r.choice(([], firms + groups[-1:], firms + heads))
     else:
         groups, firms = firms, groups
-    return b"".join(heads + groups + firms + month.activity)
+    return b"".join(heads + rules + groups + firms + month.activity)
 
 
 def changed(r, month, offset, values):
@@ -223,7 +223,7 @@ def input_of(seed, number):
 
 
 def split_month(seed, number):
-    """A month, and for each firm its code and the month of that firm alone: the same groups, its own posts.
+    """A month, and for each firm its code and the month of that firm alone: the same constants and groups, its own posts.
 
     A record that 11 to 13 refuse is no firm's; one of another kind, if it came first, would be read as part of the schedule, so
     no month begins with one.
@@ -232,7 +232,8 @@ def split_month(seed, number):
     kinds, sizes = {le(kind, 2) for kind in POSTED}, {le(size, 2) + le(kind, 2): size for kind, size in POSTED.items()}
     while month.activity and month.activity[0][2:4] not in kinds:
         month.activity.pop(0)
-    common = b"".join(month.schedule()[:1 + len(month.groups)])
+    heads, rules, groups, _ = month.parts()
+    common = b"".join(heads + rules + groups)
     posts = [r for r in month.activity if len(r) == sizes.get(r[:4])]
     own = {code: b"".join(r for r in posts if r[4:7] == code) for code in month.firms}
     return month.bytes(), [(code, common + firm(code) + own[code]) for code in month.firms]
@@ -249,7 +250,8 @@ def filled_script(r, part):
 
 
 def verdict_numbers(r):
-    raw, score, lots = day_totals(r, 1_000, r.choice(("efficient", "wasteful", "unfilled", "at a bound")))
+    """Numbers of the panel's verdict, which keeps version 9.6's constants."""
+    raw, score, lots = day_totals(r, V96, 1_000, r.choice(("efficient", "wasteful", "unfilled", "at a bound")))
     wild = r.choice((LIMIT, LIMIT + 1, 2 ** 64 - 1, r.getrandbits(64), r.getrandbits(34)))
     totals = r.choice(((raw, score, lots),) * 5 + ((wild, score, lots), (raw, wild, lots), (raw, score, wild)))
     return *totals, r.choice((1_000,) * 8 + (0, 1, 100_000, 100_001, 2 ** 64 - 1, r.randrange(1, 100_001)))
@@ -269,8 +271,9 @@ def spoil(r, script, month, size):
         script.write(i, n)
     little = r.choice(((0,) * 8, (1,) + (0,) * 7, (0, 1) + (0,) * 6, (0,) * 7 + (1,)))
     code, group = month.firms[f], month.groups[g]
+    totals = other_totals(r, month.constants(), group.benchmark)
     posts = [activity(code, day, group.code, r.choice(group.traded()), little),
-             correction(code, day, group.code, r.choice((1, 2, 3, TOP)), other_totals(r, group.benchmark))]
+             correction(code, day, group.code, r.choice((1, 2, 3, TOP)), totals)]
     for record in r.choice((posts[:1], posts[1:], posts, posts[::-1])):
         script.post(record)
 
