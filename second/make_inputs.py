@@ -5,8 +5,9 @@
 """
 import random
 import sys
+from dataclasses import asdict
 
-from make_cases import Script, activity, correction, firm, grant, group, head
+from make_cases import Script, activity, constants, correction, firm, grant, group, head, sets
 from make_months import (CELLS, POSTED, TOP, codes, day_totals, dense_month, full_cell, odd_record, other_totals, put_in,
                          quiet_month, random_group, shape, trade, whole_month)
 from mep_second import LIMIT, V96, days_in, le, output_need, per_firm_group, width
@@ -58,7 +59,8 @@ def of_size(r, size):
     usual = activity(month.firms[0], 1, g.code, g.listed[0], (3, 2, 1, 1, 0, 0, 0, 1))
     corrected = correction(month.firms[0], r.choice((1, 2)), g.code, r.choice((1, 2, TOP)),
                            other_totals(r, month.constants(), g.benchmark))
-    more = r.choice((usual, usual, corrected, corrected + usual, firm(b"ABC"), le(4, 2) + le(r.choice((4, 8, 9)), 2)))
+    more = r.choice((usual, usual, corrected, corrected + usual, firm(b"ABC"), constants(),
+                     le(4, 2) + le(r.choice((4, 8, 9)), 2)))
     data = month.bytes()
     data += more * ((size - len(data)) // len(more))
     rest = size - len(data)
@@ -75,12 +77,13 @@ def too_long(r):
 
 def noise(r):
     """Records of any kind with any body, after a good beginning or none."""
-    good = head() + group() + firm()
-    data = r.choice((b"", head(), head() + group(), good, good + activity(), good + correction()))
+    first = head() + r.choice((b"", constants()))
+    good = first + group() + firm()
+    data = r.choice((b"", first, first + group(), good, good + activity(), good + correction()))
     for _ in range(r.randrange(6)):
         any_header = r.randrange(50), r.randrange(10)
         posted = [(size, kind) for kind, size in POSTED.items()]
-        size, kind = r.choice(((10, 1), (18, 2), (20, 2), (7, 3), *posted, *posted, (4, 5), any_header))
+        size, kind = r.choice(((10, 1), (28, 6), (18, 2), (20, 2), (7, 3), *posted, *posted, (4, 5), any_header))
         data += le(size, 2) + le(kind, 2) + bytes(r.choices(b"AZ09\x00\x01\x02\x5e\xaf\xff", k=max(0, size - 4)))
     return data + random_bytes(r, r.choice((0, 0, r.randrange(9))))
 
@@ -98,10 +101,31 @@ def bad_group(r, code):
     return group(**{"code": code, name: r.choice(values)})
 
 
+def odd_set(r, c):
+    """These constants with a field or two at an end of its range or past it, out of order, or of another length or kind."""
+    fields = [*sets(), {"edges": r.choices(c.edges, k=3)}, {"factors": r.choices(c.factors, k=3)},
+              *({"size": n} for n in (0, 4, 26, 27, 29, 30, 284)), {"kind": r.choice((5, 7, 262))}]
+    return constants(**{**asdict(c), **r.choice(fields), **r.choice(({}, r.choice(fields)))})
+
+
+def misplaced_set(r, month):
+    """One set of constants more, anywhere: a second one, or one that is not directly after the head."""
+    records = month.records()
+    last = r.choice((2, len(month.schedule()), len(records)))
+    records.insert(r.randint(0, last), r.choice((constants(), odd_set(r, month.constants()))))
+    return b"".join(records)
+
+
+def cut_set(r, month):
+    """A schedule that ends within or directly after a set of constants."""
+    first = b"".join(month.parts()[0])
+    return first + r.choice((constants(), odd_set(r, month.constants())))[:r.choice((28, r.randint(1, 27)))]
+
+
 def faulty(r, month):
     """A schedule that one cause refuses, or two; by chance none."""
     heads, rules, groups, firms = month.parts()
-    fault = r.randrange(10)
+    fault = r.randrange(15)
     if fault == 0:
         heads = r.choice(([], heads * 2, [head(r.choice((23_999, 25_200)))], [head(size=r.choice((9, 11)))]))
     elif fault == 1:
@@ -121,8 +145,12 @@ def faulty(r, month):
         firms += [firm(b"%03d" % i) for i in range(201 - r.randint(0, len(firms)))]
     elif fault == 8:
         firms = r.choice(([], firms + groups[-1:], firms + heads))
-    else:
+    elif fault == 9:
         groups, firms = firms, groups
+    elif fault in (10, 11):
+        return r.choice((misplaced_set, misplaced_set, cut_set))(r, month)
+    else:
+        rules = [odd_set(r, month.constants())]
     return b"".join(heads + rules + groups + firms + month.activity)
 
 
@@ -135,18 +163,18 @@ def changed(r, month, offset, values):
 
 
 def changed_length(r, month):
-    sizes = (0, 1, 2, 3, 3, 4, 5, 7, 10, 18, 20, 31, 32, 33, 43, 44, 45, 88, r.randrange(3_000), 65_535)
+    sizes = (0, 1, 2, 3, 3, 4, 5, 7, 10, 18, 20, 27, 28, 29, 31, 32, 33, 43, 44, 45, 88, r.randrange(3_000), 65_535)
     return changed(r, month, 0, sizes)
 
 
 def changed_kind(r, month):
-    return changed(r, month, 2, (0, 1, 2, 3, 4, 5, 8, 8, 16, 260, 264, 1_025, 65_535))
+    return changed(r, month, 2, (0, 1, 2, 3, 4, 5, 6, 6, 8, 8, 16, 260, 262, 264, 1_025, 65_535))
 
 
 def changed_bytes(r, month, end):
     data = bytearray(month.bytes())
     for _ in range(r.randint(1, 3)):
-        data[r.randrange(end)] = r.choice((0, 1, 2, 3, 4, 8, 10, 32, 44, 255, r.randrange(256)))
+        data[r.randrange(end)] = r.choice((0, 1, 2, 3, 4, 6, 8, 10, 28, 32, 44, 255, r.randrange(256)))
     return bytes(data)
 
 
@@ -171,9 +199,9 @@ def with_tail(r, month):
 def late_records(r, month):
     """Records of the schedule's kinds and unknown ones after the activity began."""
     start = month.schedule() + [odd_record(r, month)]
-    late = [r.choice((*month.schedule(), firm(*codes(r, 3, 1)), le(4, 2) + le(r.choice((0, 3, 4, 5, 8)), 2),
+    late = [r.choice((*month.schedule(), constants(), firm(*codes(r, 3, 1)), le(4, 2) + le(r.choice((0, 3, 4, 5, 6, 8)), 2),
                       le(5, 2) + le(9, 2) + b"x", le(44, 2) + le(r.choice((0, 3, 5, 8, 260)), 2) + bytes(40),
-                      le(32, 2) + le(r.choice((0, 3, 4, 5, 8, 264)), 2) + bytes(28)))
+                      le(32, 2) + le(r.choice((0, 3, 4, 5, 6, 8, 264)), 2) + bytes(28)))
             for _ in range(r.randint(1, 5))]
     put_in(r, month.activity, late)
     return b"".join(start + month.activity)
@@ -183,7 +211,7 @@ def bad_first(r, month):
     """The activity begins with a record of kind 4 or 8 whose length is not its own, mostly at its due place."""
     records = month.schedule()
     kind, own = r.choice(sorted(POSTED.items()))
-    size = r.choice([n for n in (0, 1, 2, 3, 4, 5, 31, 32, 33, 43, 44, 45, 46, 88, 65_535) if n != own])
+    size = r.choice([n for n in (0, 1, 2, 3, 4, 5, 28, 31, 32, 33, 43, 44, 45, 46, 88, 65_535) if n != own])
     first = le(size, 2) + le(kind, 2) + random_bytes(r, r.choice((0, max(0, min(size, 88) - 4), r.randrange(60))))
     records.insert(r.choice((len(records), len(records), r.randint(0, len(records)))), first)
     return b"".join(records + month.activity)
