@@ -23,7 +23,8 @@ use Rattle.book.specs.Post.{taking, post_answer, post_book}
 use Rattle.book.specs.declared.posting.Effect.{Effect}
 use Rattle.book.specs.declared.posting.Effect.TheVariants as effect
 use Rattle.accepted.specs.Accepted.{accepted_cells, accepted, own, posted}
-use Rattle.accepted.specs.Samples.{head, group, ABC, firm, activity, correction_with, correction}
+use Rattle.schedule.specs.Samples.{head, group, ABC, firm}
+use Rattle.accepted.specs.Samples.{activity, correction_with, correction}
 
 -- October 2019 with day 2 not in effect, ES and ABC
 abbrev schedule : List ℕ

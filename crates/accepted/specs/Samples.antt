@@ -1,27 +1,10 @@
--- Records for computed examples, as bytes (document 01, "Records", and document 02, 2.3).
+-- Records of activity and corrections for computed examples, as bytes (document 01, "Records", and document 02, 2.3).
 -- Assumes nothing.
 use Rattle.std.specs.Prelude.{ℕ, List, [], ◌∷◌, ◌++◌}
 use Rattle.wire.specs.Bytes.{u16_bytes, u32_bytes}
-use Rattle.records.specs.Bodies.{head_kind, group_kind, firm_kind, head_size, least_group, firm_size}
+use Rattle.schedule.specs.Samples.{head, group, ABC, firm}
 use Rattle.activity.specs.Activity.{activity_kind, activity_length}
 use Rattle.activity.specs.Correction.{correction_kind, correction_length}
-
--- a head: October 2019, with these days not in effect
-abbrev pub head : (closed : ℕ) → List ℕ
-head closed = u16_bytes head_size ++ u16_bytes head_kind ++ u16_bytes 24237 ++ u32_bytes closed
-
--- a group: of this code and exchange grouping, k 64, B 1,000, front 4,095, extra 0, contract 24,239
-abbrev pub group : (first second grouping : ℕ) → List ℕ
-group first second grouping =
-    u16_bytes least_group ++ u16_bytes group_kind ++ (first ∷ second ∷ grouping ∷ 64 ∷ []) ++ u32_bytes 1000 ++ u16_bytes 4095 ++ u16_bytes 0 ++ u16_bytes 24239
-
--- the code of the firm ABC
-abbrev pub ABC : List ℕ
-ABC = 65 ∷ 66 ∷ 67 ∷ []
-
--- its record
-abbrev pub firm : List ℕ
-firm = u16_bytes firm_size ++ u16_bytes firm_kind ++ ABC
 
 -- a record of its activity, with its eight counts in their order
 abbrev pub activity : (first second day contract : ℕ) → (new modified cancelled fak_fok requests reports minimum lots : ℕ) → List ℕ

@@ -12,7 +12,7 @@ use Rattle.contracts.specs.Listing.{contracts_ok, contract_bad, before, contract
 use Rattle.lookup.specs.Lookup.{group_start, group_is, firm_is, group_listed, firm_listed}
 use Rattle.lookup.specs.declared.Layout.{Layout}
 use Rattle.schedule.specs.Check.{nothing, check_of, scan, ending, with_record, cause, is_repeated, fields_ok, constants_in_order, constants_in_range, is_full, length_ok, is_due, kind_of}
-use Rattle.accepted.specs.Samples.{head, group, ABC, firm}
+use Rattle.schedule.specs.Samples.{head, group, ABC, firm}
 use Rattle.grants.specs.Grants.{grant_kind, grant_size, grants_causes, named}
 
 -- a grant to the firm with the code C, of a day and a group

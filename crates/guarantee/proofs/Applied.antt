@@ -19,7 +19,7 @@ use Rattle.rules.specs.declared.Totals.{Totals}
 use Rattle.calendar.specs.Calendar.{days_in, in_effect}
 use Rattle.calendar.proofs.Laws.{days_most}
 use Rattle.grants.specs.Grants.{grants_causes}
-use Rattle.accepted.specs.Samples.{ABC}
+use Rattle.schedule.specs.Samples.{ABC}
 use Rattle.guarantee.specs.Demand3.{layout, totals_after, month_after, Run, Falls, SameGrants}
 use Rattle.guarantee.specs.Example.{schedule, run, some_days, is_lighter, is_kept, days_where, is_spared, Applies, example}
 use Rattle.guarantee.proofs.Demand3.{no_cause_taken}

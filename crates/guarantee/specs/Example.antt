@@ -25,7 +25,8 @@ use Rattle.cell.specs.Cell.{none}
 use Rattle.book.specs.Book.{per_firm_group, index, with_cell, check_book, open_book}
 use Rattle.book.specs.Post.{taking}
 use Rattle.accepted.specs.Accepted.{accepted_cells, posted}
-use Rattle.accepted.specs.Samples.{head, group, ABC, firm, correction, orders, fifth, ninth, three_groups, many_marks}
+use Rattle.schedule.specs.Samples.{head, group, ABC, firm}
+use Rattle.accepted.specs.Samples.{correction, orders, fifth, ninth, three_groups, many_marks}
 use Rattle.month.specs.Month.{any_excess, month_answer}
 use Rattle.grants.specs.Grants.{grants_causes}
 use Rattle.grants.specs.Month as months

@@ -20,7 +20,8 @@ use Rattle.activity.specs.Correction.{correction_fields}
 use Rattle.book.specs.Book.{per_firm_group, check_book, open_book}
 use Rattle.book.specs.Post.{taking}
 use Rattle.accepted.specs.Accepted.{posted}
-use Rattle.accepted.specs.Samples.{head, group, ABC, firm, orders, fifth, ninth, three_groups, many_marks}
+use Rattle.schedule.specs.Samples.{head, group, ABC, firm}
+use Rattle.accepted.specs.Samples.{orders, fifth, ninth, three_groups, many_marks}
 use Rattle.month.specs.Month.{any_excess, month_answer}
 use Rattle.grants.specs.Month.{granted_answer}
 use Rattle.grants.specs.Example.{grant}

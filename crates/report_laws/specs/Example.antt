@@ -20,7 +20,8 @@ use Rattle.activity.specs.Correction.{correction_fields}
 use Rattle.book.specs.Book.{check_book}
 use Rattle.book.specs.Post.{taking}
 use Rattle.accepted.specs.Accepted.{posted}
-use Rattle.accepted.specs.Samples.{firm, activity, correction, three_groups, many_marks}
+use Rattle.schedule.specs.Samples.{firm}
+use Rattle.accepted.specs.Samples.{activity, correction, three_groups, many_marks}
 use Rattle.month.specs.Month.{any_excess, month_answer}
 use Rattle.grants.specs.Month.{granted_answer}
 use Rattle.statement.specs.Lines.{line_at, tally, shown}

@@ -7,3 +7,4 @@ pub mod Laws
 pub mod Bounds
 pub mod Marked
 pub mod Misread
+pub mod Sets

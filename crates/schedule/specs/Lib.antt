@@ -1,2 +1,4 @@
 pub mod Check
 pub mod Good
+pub mod Samples
+pub mod Example
