@@ -42,9 +42,13 @@ seventh first second day = orders first second day 20000 0 1 0
 abbrev pub eleventh : (first second day : ℕ) → List ℕ
 eleventh first second day = orders first second day 10001 30000 0 1000
 
--- day 2 not in effect; ES and ZC of grouping 1, CL of grouping 2
+-- these days not in effect, constants or none; ES and ZC of grouping 1, CL of grouping 2
+abbrev pub groups_under : (closed : ℕ) → (set : List ℕ) → List ℕ
+groups_under closed set = head closed ++ set ++ group 69 83 1 ++ group 67 76 2 ++ group 90 67 1 ++ firm
+
+-- day 2 not in effect, and no constants
 abbrev pub three_groups : List ℕ
-three_groups = head 2 ++ group 69 83 1 ++ group 67 76 2 ++ group 90 67 1 ++ firm
+three_groups = groups_under 2 []
 
 -- one failing day more in ES on the day not in effect, one in CL, and one in ZC, which has many lots on another day; in each tier one at least
 abbrev pub many_marks : List (List ℕ)

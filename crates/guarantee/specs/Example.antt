@@ -40,7 +40,7 @@ abbrev pub schedule : List ℕ
 schedule = head 0 ++ group 69 83 1 ++ firm
 
 -- the totals of grouping 2 without a violation
-abbrev no_violations : List ℕ
+abbrev pub no_violations : List ℕ
 no_violations = 20 ∷ 0 ∷ 19 ∷ 0 ∷ 2 ∷ 0 ∷ 0 ∷ 0 ∷ 0 ∷ 0 ∷ 0 ∷ 0 ∷ 0 ∷ 0 ∷ 0 ∷ 0 ∷ 0 ∷ 0 ∷ 0 ∷ 0 ∷ []
 
 -- document 01's whole run
@@ -71,11 +71,11 @@ many_bytes =
     ++ (20 ∷ 0 ∷ 19 ∷ 0 ∷ 2 ∷ 0 ∷ 1 ∷ 0 ∷ 0 ∷ 0 ∷ 1 ∷ 0 ∷ 0 ∷ 0 ∷ 0 ∷ 0 ∷ 0 ∷ 0 ∷ 0 ∷ 0 ∷ [])
 
 -- what the statement with the grants G answers after a list, to a book of so many groups and an output of 120 sevens
-abbrev answers : (S : List ℕ) → (groups : ℕ) → List (List ℕ) → (G : List ℕ) → Outcome ℕ
+abbrev pub answers : (S : List ℕ) → (groups : ℕ) → List (List ℕ) → (G : List ℕ) → Outcome ℕ
 answers S groups rs G = statement_answer S (posted S (open_book S (table (per_firm_group * groups) (λ i. 9))) rs) ABC G (table 120 (λ i. 7))
 
 -- and what it leaves in that output
-abbrev leaves : (S : List ℕ) → (groups : ℕ) → List (List ℕ) → (G : List ℕ) → List ℕ
+abbrev pub leaves : (S : List ℕ) → (groups : ℕ) → List (List ℕ) → (G : List ℕ) → List ℕ
 leaves S groups rs G = statement_output S (posted S (open_book S (table (per_firm_group * groups) (λ i. 9))) rs) ABC G (table 120 (λ i. 7))
 
 -- grants for the run's severe day, twice, for an automatic one, and for a day without a violation
@@ -104,7 +104,7 @@ abbrev into_none : (G : List ℕ) → Outcome ℕ
 into_none G = statement_answer schedule (open_book schedule (table per_firm_group (λ i. 9))) ABC G []
 
 -- the run with more lots on day 3
-abbrev eased : List (List ℕ)
+abbrev pub eased : List (List ℕ)
 eased = fifth 69 83 1 10000 ∷ fifth 69 83 2 10000 ∷ fifth 69 83 3 20000 ∷ ninth 69 83 4 ∷ []
 
 -- three failing days, and one with a single message and many lots

@@ -1,5 +1,5 @@
 -- Computed examples of reasons (document 02, 2.7): every answer, in a month with both exchange groupings; the sides of severe days; two waivers of one day;
--- days and groups that the schedule doesn't know, and the order of refusals.
+-- reasons under sets of constants (2.9); days and groups that the schedule doesn't know, and the order of refusals.
 -- Assumes nothing.
 use Rattle.std.specs.Prelude.{ℕ, ◌*◌, List, [], ◌∷◌, ◌++◌, ◌≡◌, refl, take}
 use Rattle.wire.specs.Bytes.{u16_at, u32_at}
@@ -7,8 +7,10 @@ use Rattle.wire.specs.Choose.{choose, all, seek_in, last_below}
 use Rattle.wire.specs.Lists.{joined, table}
 use Rattle.wire.specs.Sums.{sum}
 use Rattle.calendar.specs.Calendar.{days_in}
-use Rattle.rules.specs.Verdict.{verdict}
-use Rattle.records.specs.Fields.{head_fields, head_ok, group_fields, group_in_range, is_letter, firm_fields, firm_ok, has_code}
+use Rattle.rules.specs.Verdict.{version96, verdict}
+use Rattle.rules.specs.Constants.{in_range, in_order}
+use Rattle.rules.specs.declared.Rules.{Rules}
+use Rattle.records.specs.Fields.{head_fields, head_ok, constants_fields, group_fields, group_in_range, is_letter, firm_fields, firm_ok, has_code}
 use Rattle.contracts.specs.Listing.{contracts_ok, contract_bad, before, contract, listed}
 use Rattle.contracts.specs.Counted.{contract_listed, contract_counted, in_front, is_after, is_counted, contract_is}
 use Rattle.refusals.specs.Outcome.{Outcome, refused, good}
@@ -20,13 +22,14 @@ use Rattle.activity.specs.Correction.{correction_fields}
 use Rattle.book.specs.Book.{per_firm_group, check_book, open_book}
 use Rattle.book.specs.Post.{taking}
 use Rattle.accepted.specs.Accepted.{posted}
-use Rattle.schedule.specs.Samples.{head, group, ABC, firm}
-use Rattle.accepted.specs.Samples.{orders, fifth, ninth, three_groups, many_marks}
+use Rattle.schedule.specs.Samples.{constants, ABC}
+use Rattle.accepted.specs.Samples.{groups_under, orders, fifth, ninth, three_groups, many_marks}
 use Rattle.month.specs.Month.{any_excess, month_answer}
 use Rattle.grants.specs.Month.{granted_answer}
 use Rattle.grants.specs.Example.{grant}
 use Rattle.reason.specs.Beside.{Reason, values_at}
 use Rattle.reason.specs.Reason.{reason_answer}
+use Rattle.reason.specs.Taken.{missing}
 
 -- the groups' codes
 abbrev ES : List ℕ
@@ -67,10 +70,18 @@ two_at_once = fifth 90 67 1 10000 ∷ fifth 69 83 1 10000 ∷ fifth 69 83 3 1000
 
 -- the same groups with every day in effect, and the book that such a month fills
 abbrev all_days : List ℕ
-all_days = head 0 ++ group 69 83 1 ++ group 67 76 2 ++ group 90 67 1 ++ firm
+all_days = groups_under 0 []
 
 abbrev full_book : List ℕ
 full_book = book all_days many_marks
+
+-- the reason for a day and group under a set, with every day in effect
+abbrev under : Rules → (day : ℕ) → (code : List ℕ) → Outcome Reason
+under P day code = let S = groups_under 0 (constants P) in reason_answer S (book S many_marks) ABC day code []
+
+-- the sums of ES with every day in effect
+abbrev ES_sums : List ℕ
+ES_sums = 508001 ∷ 572003 ∷ 40000 ∷ 5 ∷ []
 
 -- what is answered of a firm, day and group after no posts
 abbrev refusing : (C : List ℕ) → (day : ℕ) → (code G : List ℕ) → Outcome Reason
@@ -97,6 +108,15 @@ pub record Example : Type 0 where
   pub highest_tier : told severe_days 4 ES [] ≡ marked 1 (6000100 ∷ 6000000 ∷ [])
   -- of one day, the group that stands first in the schedule comes first
   pub same_day : told two_at_once 3 ES [] ≡ marked 2 (244000 ∷ 286000 ∷ 20000 ∷ 2 ∷ (1 ∷ ES) ++ (1 ∷ ZC))
+  -- 2.9: of three waivers the last two; zeros after the only one, and for both where there is none
+  pub last_two_of_three : under (record version96 { waivers = 3 }) 4 ES ≡ marked 2 (ES_sums ++ (2 ∷ ES) ++ (3 ∷ ES))
+  pub only_one : under (record version96 { waivers = 1 }) 3 ES ≡ marked 2 (ES_sums ++ (1 ∷ ES) ++ missing)
+  pub no_waivers : under (record version96 { waivers = 0 }) 1 ES ≡ marked 2 (ES_sums ++ missing ++ missing)
+  -- the sides go by the set's severe multiple and factor
+  pub severe_at_once : under (record version96 { severe = 1 }) 4 ES ≡ marked 1 (14300000 ∷ 10000000 ∷ [])
+  pub equal_factors : under (record version96 { factor1 = 2; severe = 1 }) 1 CL ≡ marked 1 (3000000 ∷ 2000000 ∷ [])
+  -- version 9.6 written out says the same as leaving it out
+  pub written_out : under version96 4 ES ≡ reason_answer all_days full_book ABC 4 ES []
   -- 15, also of codes of another length; 16, on day 0 and past the month
   pub unknown_group : refusing ABC 1 XX [] ≡ refused 15 0
   pub short_code : refusing ABC 1 (69 ∷ []) [] ≡ refused 15 0
@@ -118,7 +138,7 @@ pub example : Example
 unfolding posted taking totals_of correction_fields check_book check_of scan ending with_record cause is_repeated fields_ok constants_in_order constants_in_range is_full length_ok is_due kind_of
     firm_listed group_listed firm_is group_is group_start firm_ok firm_fields has_code group_in_range group_fields contracts_ok contract_bad before contract
     listed head_ok head_fields is_letter contract_is is_counted is_after in_front contract_counted contract_listed days_in sum joined seek_in last_below all
-    choose u32_at u16_at rules_of verdict any_excess month_answer granted_answer values_at reason_answer
+    choose u32_at u16_at rules_of constants_fields in_range in_order verdict any_excess month_answer granted_answer values_at reason_answer
 example =
     record {
       automatic = refl;
@@ -136,6 +156,12 @@ example =
       lowest_tier = refl;
       highest_tier = refl;
       same_day = refl;
+      last_two_of_three = refl;
+      only_one = refl;
+      no_waivers = refl;
+      severe_at_once = refl;
+      equal_factors = refl;
+      written_out = refl;
       unknown_group = refl;
       short_code = refl;
       long_code = refl;

@@ -2,7 +2,7 @@
 -- Assumes nothing.
 use Rattle.std.specs.Prelude.{true, false, ◌≡◌, refl}
 use Rattle.wire.specs.Choose.{choose, all}
-use Rattle.rules.specs.Verdict.{version96, verdict, severe_sides}
+use Rattle.rules.specs.Verdict.{version96, verdict, severe_sides, is_violation}
 use Rattle.rules.specs.Month.{is_exempt}
 use Rattle.rules.specs.Marks.{cost}
 use Rattle.rules.specs.Constants.{in_range, in_order, clamped}
@@ -29,6 +29,10 @@ greatest =
 -- a set of its own: edges 100, 200 and 300, factors 10, 7 and 7, twice as severe, three waivers of 500 dollars
 abbrev pub own : Rules
 own = record { edge1 = 100; edge2 = 200; edge3 = 300; factor1 = 10; factor2 = 7; factor3 = 7; severe = 2; waivers = 3; dollars = 500 }
+
+-- a set that 38 refuses
+abbrev rising : Rules
+rising = record version96 { factor1 = 1; factor2 = 3 }
 
 pub record Sets : Type 0 where
   pub least_in : in_range least ≡ true
@@ -64,6 +68,9 @@ pub record Sets : Type 0 where
   pub sides : severe_sides own 1000 1 (record { raw = 301; score = 1401; lots = 10 }) ≡ record { scored = 140100; allowed = 140000 }
   -- an edge of 0 judges a day with one message
   pub one_message : verdict least 1000 1 (record { raw = 1; score = 3; lots = 0 }) ≡ record { code = 5; factor = 1 }
+  -- why no factor may be above the one before it: with 1 and 3 a day fails that would pass with a message more
+  pub fewer_fails : is_violation (verdict rising 1000 1 (record { raw = 40000; score = 20; lots = 1 })).code ≡ true
+  pub more_passes : is_violation (verdict rising 1000 1 (record { raw = 40001; score = 20; lots = 1 })).code ≡ false
   -- a month of two days: at its first edge, and at its bound above it
   pub month_at_edge : is_exempt own 1000 2 (record { raw = 200; score = 9000; lots = 0 }) ≡ true
   pub month_at_bound : is_exempt own 1000 2 (record { raw = 201; score = 1000; lots = 10 }) ≡ true
@@ -105,6 +112,8 @@ sets =
       severe = refl;
       sides = refl;
       one_message = refl;
+      fewer_fails = refl;
+      more_passes = refl;
       month_at_edge = refl;
       month_at_bound = refl;
       month_above = refl;
