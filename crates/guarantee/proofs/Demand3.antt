@@ -53,7 +53,7 @@ use Rattle.statement.specs.Statement.{statement_bytes, need, statement_answer, s
 use Rattle.statement.proofs.Answers.{is-refused}
 use Rattle.statement.proofs.Shown.{lines_length, mark_some, marks-count, bytes-length}
 use Rattle.guarantee.specs.Demand3.{layout, is_listed, totals_after, month_after, amount_after, Run, answer_of, output_of, month, amount_of, GrantsTaken, Falls}
-use Rattle.guarantee.specs.Demand3.{SameGrants, TotalsAre, after_lines, AddsUp, DollarsFall, SameStatement, Demand3, SameBytes, WithoutGrants}
+use Rattle.guarantee.specs.Demand3.{SameGrants, TotalsAre, after_lines, AddsUp, DollarsFall, SameStatement, Demand3, Under96, SameBytes, WithoutGrants}
 
 -- the totals of a month, read back, whatever stands behind them
 module _ (P : Rules) (small : P.dollars ≤ 10000) (ys : List ℕ) (e : ℕ) (j : Judged) where
@@ -337,6 +337,10 @@ demand3 S C listed =
       adds_up = λ p t. added S C listed p (no_cause S C listed p t);
       own_only = same_statement S C listed;
     }
+
+pub under-96 : (S C : List ℕ) → Under96 S C
+unfolding rules_of
+under-96 S C = record { in_force = λ e. rw e refl; amount_is = λ e rs G k. rw e refl }
 
 -- no grants are taken, and name no place
 module _ (S C : List ℕ) (listed : is_listed S C ≡ true) where

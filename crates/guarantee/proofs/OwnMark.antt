@@ -272,7 +272,7 @@ module _ (S B C G out : List ℕ) (day : ℕ) (code : List ℕ) {n : ℕ} {r : R
     from_line : (k : ℕ) → at_line k → (i : ℕ) → Numbered places fails_at k i → at_place i
     from_line k is4 i at = (
       sym (grouping i at.inside at.holds)
-      ∙ ap (λ (x : ℕ). grouping_of S (line_code (line_of (statement_output S B C G out) x))) at.number ∙ is4.1 ∙ own-grouping,
+          ∙ ap (λ (x : ℕ). grouping_of S (line_code (line_of (statement_output S B C G out) x))) at.number ∙ is4.1 ∙ own-grouping,
       sym (shows i at.inside at.holds).mark_is ∙ ap (λ (x : ℕ). line_mark (line_of (statement_output S B C G out) x)) at.number ∙ is4.0,
     )
 

@@ -1,18 +1,19 @@
 -- Demand 3 of the customer's letter, in the words of document 01 ("Demand 3 is a single claim about whole lists of posts") and of the calls,
--- bytes, scores, corrections, refusals and grants as document 02, 2.1 to 2.6, has them. S is the schedule, any bytes; C a firm's code; rs a list of
+-- bytes, scores, corrections, refusals, grants and constants as document 02, 2.1 to 2.9, has them. S is the schedule, any bytes; C a firm's code; rs a list of
 -- posts, any byte strings, activity and corrections among them in any order; G the grants, any bytes.
 -- Proved in proofs/Demand3.antt: of every schedule and every firm that it lists.
 -- Assumes nothing.
-use Rattle.std.specs.Prelude.{ℕ, ◌+◌, ◌*◌, ◌≤◌, Bool, true, List, [], ◌≡◌, take, drop}
+use Rattle.std.specs.Prelude.{ℕ, ◌+◌, ◌*◌, ◌≤◌, Bool, true, false, List, [], ◌≡◌, take, drop}
 use Rattle.rules.specs.Month.{DailyTotals}
-use Rattle.rules.specs.Marks.{Judged, mark_without_grants, mark, violations, marked, billed, amount}
+use Rattle.rules.specs.Verdict.{version96}
+use Rattle.rules.specs.Marks.{Judged, judged, mark_without_grants, mark, violations, marked, billed, amount}
 use Rattle.rules.specs.Lighter.{LighterMonth, NoSevereNamed}
 use Rattle.rules.specs.declared.Rules.{Rules}
 use Rattle.records.specs.Bodies.{length_at, kind_at}
 use Rattle.refusals.specs.Outcome.{Outcome, refused, good, given}
 use Rattle.lookup.specs.Lookup.{firm_listed, firm_place}
 use Rattle.schedule.specs.Check.{nothing, check_of}
-use Rattle.lookup.specs.InForce.{rules_of}
+use Rattle.lookup.specs.InForce.{has_constants, rules_of}
 use Rattle.lookup.specs.declared.Layout.{Layout}
 use Rattle.book.specs.Book.{open_answer, open_book}
 use Rattle.accepted.specs.Accepted.{accepted, own, of_bytes, posted}
@@ -135,7 +136,7 @@ pub record SameStatement (S C : List ℕ) (p q : Run S C) : Type 0 where
 
 pub record Demand3 (S C : List ℕ) : Type 0 where
   -- the firm's amount never rises in either exchange grouping as traffic falls, whatever the others sent; 2.6: with the same grants, which 34 and 35
-  -- don't refuse, and none of which names a day that was severe
+  -- don't refuse, and none of which names a day that was severe; 2.9: under one set of constants, that of the schedule, whatever lawful set it is
   pub falls : (p q : Run S C) → Falls S C p.posts q.posts → SameGrants S C p q → (e : ℕ) → amount_of S C q e ≤ amount_of S C p e
   -- nor do the dollars in its statement
   pub dollars_fall : (p q : Run S C) → Falls S C p.posts q.posts → SameGrants S C p q → DollarsFall S C p q
@@ -144,6 +145,12 @@ pub record Demand3 (S C : List ℕ) : Type 0 where
   pub adds_up : (p : Run S C) → GrantsTaken S C p → AddsUp S C p
   -- a firm whose own posts are the same list in both gets the same statement bytes, whatever the others sent; 2.6: when the grants are the same too
   pub own_only : (p q : Run S C) → own C p.posts ≡ own C q.posts → p.grants ≡ q.grants → SameStatement S C p q
+
+-- 2.9: absent, version 9.6's numbers hold, so that the claim is about amounts worked out by them
+pub record Under96 (S C : List ℕ) : Type 0 where
+  pub in_force : has_constants S ≡ false → rules_of S ≡ version96
+  pub amount_is : has_constants S ≡ false → (rs : List (List ℕ)) (G : List ℕ) (e : ℕ)
+      → amount_after S C rs G e ≡ amount version96 (judged version96 (terms S (layout S)) (totals_after S C rs) (named S (layout S) C G)) e
 
 -- both are written, and have the same bytes
 pub record SameBytes (S C : List ℕ) (p q : Run S C) : Type 0 where

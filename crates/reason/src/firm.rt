@@ -53,7 +53,7 @@ impl FirmMonth<'_> {
         }
     }
 
-    // Both sides of the six-times comparison of place i; zeros where 24 refuses the day.
+    // Both sides of the comparison with the severe multiple, of place i; zeros where 24 refuses the day.
     fn sides(&self, i: usize) -> Sides
         requires { i < places }
         ensures { result ≡ sides_in self.now i }

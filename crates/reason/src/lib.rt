@@ -28,7 +28,7 @@ pub struct Waiver {
 #[derive(Clone, Copy, Debug, PartialEq, Eq)]
 pub enum Explanation {
     NotAViolation,
-    // Both sides of the six-times comparison.
+    // Both sides of the comparison with the severe multiple.
     Severe(Sides),
     // Its group is exempt: R, S, V and d.
     Monthly(MonthSums),

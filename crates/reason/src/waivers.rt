@@ -18,6 +18,12 @@ pub(crate) struct LastTwo {
     pub second: Option<usize>,
 }
 
+// Where an exchange grouping has no automatic line.
+const NO_WAIVERS: LastTwo = LastTwo {
+    first: None,
+    second: None,
+};
+
 impl FirmMonth<'_> {
     // Whether the line of place i is an automatic one of an exchange grouping.
     fn is_automatic(&self, e: u8, i: usize) -> bool
@@ -61,10 +67,7 @@ impl FirmMonth<'_> {
         ensures { result ≡ two_in self.now e }
     {
         let Some(later) = self.last_automatic(e, PLACES) else {
-            return LastTwo {
-                first: None,
-                second: None,
-            };
+            return NO_WAIVERS;
         };
         match self.last_automatic(e, later) {
             None => LastTwo {

@@ -34,7 +34,6 @@ laws P F =
       dollars = dollars P;
     }
 
-
 -- a number within a range is not above its end
 least_is : (lo hi x : ℕ) → within lo hi x ≡ true → min x hi ≡ x
 least_is lo hi x e = let r = range lo hi x e in omega (arith, r.most)

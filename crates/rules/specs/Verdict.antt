@@ -1,6 +1,7 @@
 -- The Program's constants, and the verdict on totals (document 01, "The day's verdict", and document 02, 2.1 and 2.7; the Program, sections 2 to 5
 -- and 8). `Rules`, `Totals`, `Sides` and `Verdict` are the structs of src/lib.rt. Totals are those of d days: a day's own for d = 1, a month's sums for
--- its d counted days (document 01, "The month").
+-- its d counted days (document 01, "The month"). P are the constants; the numbers in document 01's sentences are version 9.6's, and a schedule may give others
+-- (2.9; Constants.antt has which).
 -- Assumes nothing.
 use Rattle.std.specs.Prelude.{ℕ, ◌+◌, ◌*◌, Bool, cond, not, ◌&&◌, ◌||◌, [], ◌∷◌, Option, Some, None, Result, Ok, Err, leb, ltb, eqb}
 use Rattle.wire.specs.Choose.{choose, all, within}
@@ -47,7 +48,7 @@ module _ (P : Rules) where
   abbrev pub exceeds : (B d : ℕ) → Totals → Bool
   exceeds B d t = ltb (sides B d t).allowed (sides B d t).scored
 
-  -- 2.7: both sides of the six-times comparison, 100 × score and 6 × B × m × lots
+  -- 2.7: both sides of the six-times comparison, 100 × score and 6 × B × m × lots; 2.9: the severe multiple in place of 6
   abbrev pub severe_sides : (B d : ℕ) → Totals → Sides
   severe_sides B d t = sides (P.severe * B) d t
 
