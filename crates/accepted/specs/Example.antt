@@ -148,10 +148,10 @@ pub record Example : Type 0 where
   pub precedes : answers earlier (amend 7 1 ∷ orders 7 2 0 3 6 ∷ orders 7 2 0 3 5 ∷ []) ≡ good effect.Counted ∷ refused 33 0 ∷ refused 32 0 ∷ []
 
 pub example : Example
-unfolding accepted_cells posted taking totals_of correction_fields check_book check_of scan ending with_record cause is_repeated fields_ok constants_in_order constants_in_range is_full length_ok is_due kind_of
-    firm_listed group_listed firm_is group_is group_start firm_ok firm_fields has_code group_in_range group_fields contracts_ok contract_bad before contract
-    listed head_ok head_fields is_letter contract_is is_counted is_late is_after in_front contract_counted contract_listed days_in sum joined keep seek_in all choose u32_at
-    u16_at
+unfolding accepted_cells posted taking totals_of correction_fields check_book check_of scan ending with_record cause is_repeated fields_ok
+    constants_in_order constants_in_range is_full length_ok is_due kind_of firm_listed group_listed firm_is group_is group_start firm_ok firm_fields
+    has_code group_in_range group_fields contracts_ok contract_bad before contract listed head_ok head_fields is_letter contract_is is_counted is_late
+    is_after in_front contract_counted contract_listed days_in sum joined keep seek_in all choose u32_at u16_at
 example =
     record {
       answered = refl;

@@ -70,9 +70,9 @@ pub record Example : Type 0 where
   pub other_day : named S l ABC three 97 ≡ false
 
 pub example : Example
-unfolding check_of scan ending with_record cause is_repeated fields_ok constants_in_order constants_in_range is_full length_ok is_due kind_of firm_listed group_listed firm_is group_is group_start
-    firm_ok firm_fields has_code group_in_range group_fields contracts_ok contract_bad before contract listed head_ok head_fields is_letter days_in joined
-    seek_in all choose u32_at u16_at
+unfolding check_of scan ending with_record cause is_repeated fields_ok constants_in_order constants_in_range is_full length_ok is_due kind_of
+    firm_listed group_listed firm_is group_is group_start firm_ok firm_fields has_code group_in_range group_fields contracts_ok contract_bad before
+    contract listed head_ok head_fields is_letter days_in joined seek_in all choose u32_at u16_at
 example =
     record {
       none = refl;

@@ -111,11 +111,11 @@ pub record Sets : Type 0 where
   pub eased_amount : amount_after (schedule_under unwaived) ABC eased [] 1 ≡ 3000
 
 pub sets : Sets
-unfolding accepted_cells posted taking totals_of correction_fields check_book check_of scan ending with_record cause is_repeated fields_ok constants_in_order
-    constants_in_range is_full length_ok is_due kind_of firm_listed group_listed firm_is group_is group_start firm_ok firm_fields has_code group_in_range
-    group_fields contracts_ok contract_bad before contract listed head_ok head_fields rules_of constants_fields in_range in_order is_letter contract_is is_counted
-    is_after in_front contract_counted contract_listed days_in sum joined seek_in all choose u32_at u16_at verdict any_excess month_answer
-    months.granted_answer line_at tally shown
+unfolding accepted_cells posted taking totals_of correction_fields check_book check_of scan ending with_record cause is_repeated fields_ok
+    constants_in_order constants_in_range is_full length_ok is_due kind_of firm_listed group_listed firm_is group_is group_start firm_ok firm_fields
+    has_code group_in_range group_fields contracts_ok contract_bad before contract listed head_ok head_fields rules_of constants_fields in_range
+    in_order is_letter contract_is is_counted is_after in_front contract_counted contract_listed days_in sum joined seek_in all choose u32_at u16_at
+    verdict any_excess month_answer months.granted_answer line_at tally shown
 sets =
     record {
       same_answer = refl;

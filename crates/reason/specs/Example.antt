@@ -135,10 +135,11 @@ pub record Example : Type 0 where
   pub no_such_cell : refusing ABC 1 ES (grant ABC 1 88 88) ≡ refused 35 0
 
 pub example : Example
-unfolding posted taking totals_of correction_fields check_book check_of scan ending with_record cause is_repeated fields_ok constants_in_order constants_in_range is_full length_ok is_due kind_of
-    firm_listed group_listed firm_is group_is group_start firm_ok firm_fields has_code group_in_range group_fields contracts_ok contract_bad before contract
-    listed head_ok head_fields is_letter contract_is is_counted is_after in_front contract_counted contract_listed days_in sum joined seek_in last_below all
-    choose u32_at u16_at rules_of constants_fields in_range in_order verdict any_excess month_answer granted_answer values_at reason_answer
+unfolding posted taking totals_of correction_fields check_book check_of scan ending with_record cause is_repeated fields_ok constants_in_order
+    constants_in_range is_full length_ok is_due kind_of firm_listed group_listed firm_is group_is group_start firm_ok firm_fields has_code
+    group_in_range group_fields contracts_ok contract_bad before contract listed head_ok head_fields is_letter contract_is is_counted is_after
+    in_front contract_counted contract_listed days_in sum joined seek_in last_below all choose u32_at u16_at rules_of constants_fields in_range
+    in_order verdict any_excess month_answer granted_answer values_at reason_answer
 example =
     record {
       automatic = refl;

@@ -95,11 +95,12 @@ pub record Example : Type 0 where
   pub cut_output : report_output [] (zeros 14) ≡ text "refused 4 at 0"
 
 pub example : Example
-unfolding posted taking totals_of correction_fields check_book check_of scan ending with_record cause is_repeated fields_ok constants_in_order constants_in_range is_full length_ok is_due kind_of
-    firm_listed group_listed firm_is group_is group_start firm_ok firm_fields has_code group_in_range group_fields contracts_ok contract_bad before contract
-    listed head_ok head_fields is_letter contract_is is_counted is_after in_front contract_counted contract_listed days_in sum joined seek_in all choose u32_at
-    u16_at rules_of verdict any_excess month_answer granted_answer line_at tally shown first_length cut_in bytes_before records_from decimal refused_at heading refused_line mark_word
-    counts violation_line totals_line statement_lines zeros post_lines statement_of month_lines report
+unfolding posted taking totals_of correction_fields check_book check_of scan ending with_record cause is_repeated fields_ok constants_in_order
+    constants_in_range is_full length_ok is_due kind_of firm_listed group_listed firm_is group_is group_start firm_ok firm_fields has_code
+    group_in_range group_fields contracts_ok contract_bad before contract listed head_ok head_fields is_letter contract_is is_counted is_after
+    in_front contract_counted contract_listed days_in sum joined seek_in all choose u32_at u16_at rules_of verdict any_excess month_answer
+    granted_answer line_at tally shown first_length cut_in bytes_before records_from decimal refused_at heading refused_line mark_word counts
+    violation_line totals_line statement_lines zeros post_lines statement_of month_lines report
 example =
     record {
       whole_run = refl;
