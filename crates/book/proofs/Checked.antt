@@ -12,7 +12,7 @@ use Rattle.lookup.specs.declared.Layout.{Layout}
 use Rattle.refusals.proofs.Outcomes.{refused-good, good_is}
 use Rattle.book.specs.Book.{size, check_book}
 
--- a book that is not refused by 1 to 8: the schedule is good, and the book has the numbers that it asks for
+-- a book that is not refused by 1 to 8, 37, 38: the schedule is good, and the book has the numbers that it asks for
 pub record Sized (S : List ℕ) (numbers : ℕ) (l : Layout) : Type 0 where
   pub schedule : check_of S ≡ good l
   pub room : size l ≤ numbers

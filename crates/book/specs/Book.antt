@@ -52,8 +52,8 @@ cells G B f g day = cond (ltb g G && within 1 31 day) (cell_at B (index G f g da
 abbrev pub totals_in : (G : ℕ) → (B : List ℕ) → (f : ℕ) → DailyTotals
 totals_in G B f = cell_totals (cells G B f)
 
--- Numbers of refusal and 2.3, 1 to 8, of every call that takes a schedule and a book: the schedule's, then a book of so many numbers under 124 × G × F; else what the
--- schedule holds
+-- Numbers of refusal, 2.3 and 2.9, of every call that takes a schedule and a book: the schedule's (1 to 7, 37, 38), then 8, a book of so many numbers under
+-- 124 × G × F; else what the schedule holds
 unfoldable pub check_book : (S : List ℕ) → (numbers : ℕ) → Outcome Layout
 check_book S numbers = follow (check_of S) (λ l. cond (ltb numbers (size l)) (refused 8 0) (good l))
 

@@ -41,7 +41,7 @@ module _ (S B R : List ℕ) where
   abbrev pub book_under : Layout → List ℕ
   book_under l = cond (is_taken (answer_under l)) (with_cell B (index_of S l R) (entered (cell_at B (index_of S l R)) R)) B
 
-  -- Post, after 1 to 8
+  -- Post, after the refusals of schedule and book (1 to 8, 37, 38)
   abbrev pub post_answer : Outcome Effect
   post_answer = follow (check_book S (length B)) answer_under
 

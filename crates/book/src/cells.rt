@@ -70,7 +70,7 @@ pub(crate) fn store_cell(book: &mut [u64], at: usize, cell: Cell)
     book[at + 3] = cell.edition;
 }
 
-// The schedule and the size of a book: refused by 1 to 8, or what the schedule holds.
+// The schedule and the size of a book: refused by 1 to 8, 37 or 38, or what the schedule holds.
 #[tactic(auto, unfolding(crate::specs::Book::check_book))]
 pub fn check_book(schedule: &[u8], numbers: usize) -> Result<Layout, Refusal>
     ensures { outcome result ≡ check_book schedule.now numbers }

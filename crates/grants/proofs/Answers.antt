@@ -1,4 +1,4 @@
--- What a month with grants comes to: 1 to 8, 21 or 22 refuses it, or 34 or 35 the first grant that has one, or it is the firm's month. Its grants change
+-- What a month with grants comes to: 1 to 8, 37, 38, 21 or 22 refuses it, or 34 or 35 the first grant that has one, or it is the firm's month. Its grants change
 -- the marks alone.
 use Prim.Native.Nat.{ℕ}
 use mathlib.Core.Bool.{Bool, true, false, not}
@@ -50,7 +50,7 @@ unfolding choose joined
 none-refused S l = refl
 
 module _ (S B C G : List ℕ) where
-  -- 1 to 8, 21 and 22
+  -- 1 to 8, 37, 38, 21 and 22
   pub is-refused : {n o : ℕ} → month_answer S B C ≡ refused n o → granted_answer S B C G ≡ refused n o
   unfolding granted_answer
   is-refused e = rw e

@@ -15,7 +15,7 @@ module _ (S B C G : List ℕ) where
   abbrev pub granted_month : (l : Layout) → Judged
   granted_month l = month_of S l (firm_totals S B C l) (named S l C G)
 
-  -- Numbers of refusal: 1 to 8, 21 and 22, and after 22 (2.6), grant by grant, 34 and 35; else what the schedule holds
+  -- Numbers of refusal: 1 to 8, 37 and 38 (2.9), 21 and 22, and after 22 (2.6), grant by grant, 34 and 35; else what the schedule holds
   unfoldable pub granted_answer : Outcome Layout
   granted_answer = follow (month_answer S B C) (λ l. asked (grants_causes S l G) (good l))
 

@@ -1,4 +1,4 @@
-// A firm's month with its grants (document 02, 2.6): refused by 1 to 8, 21, 22, 34 or 35, or its verdicts, exemptions and marks.
+// A firm's month with its grants (document 02, 2.6): refused by 1 to 8, 21, 22, 34, 35, 37 or 38, or its verdicts, exemptions and marks.
 #![tactic(auto)]
 
 mod giving;

@@ -154,7 +154,7 @@ pub record Written (S B C G out : List ℕ) (l : Layout) (j : Judged) : Type 0 w
   pub answer : statement_answer S B C G out ≡ good (length (statement_bytes S l j))
   pub output : statement_output S B C G out ≡ over (statement_bytes S l j) out
 
--- where 1 to 8, 21, 22, 34 and 35 do not refuse, the statement is written, if 23 does not
+-- where 1 to 8, 37, 38, 21, 22, 34 and 35 do not refuse, the statement is written, if 23 does not
 module _ (S B C G out : List ℕ) (l : Layout) (judged : granted_answer S B C G ≡ good l) where
   written : (statement_answer S B C G out ≡ refused 23 0 → ⊥) → Written S B C G out l (granted_month S B C G l)
   written enough = go (ltb (length out) (need (granted_month S B C G l))) refl

@@ -1,4 +1,4 @@
--- What a month's call comes to: the first of 1 to 8, 21 and 22, or what the schedule holds.
+-- What a month's call comes to: the first of 1 to 8, 37, 38, 21 and 22, or what the schedule holds.
 use Prim.Native.Nat.{ℕ}
 use mathlib.Core.Bool.{true, false, not}
 use mathlib.Core.List.{List}
@@ -20,7 +20,7 @@ use Rattle.month.specs.declared.Month.{Month}
 use Rattle.month.specs.Parts.{ListedAt, Sound}
 
 module _ (S B C : List ℕ) where
-  -- 1 to 8
+  -- 1 to 8, 37, 38
   pub is-refused : {n o : ℕ} → check_book S (length B) ≡ refused n o → month_answer S B C ≡ refused n o
   unfolding month_answer
   is-refused e = rw e
@@ -68,5 +68,5 @@ judged-sound S B C {l} e =
     let p = passed (month_causes S B C l) refl (asked-passed (month_causes S B C) (check_book S (length B)) e) in
     record { checked = (sized S (length B) (judged-book S B C e)).schedule; within = p.1.0 }
 
--- a call that 1 to 8 refuse
+-- a call that 1 to 8, 37, 38 refuse
 pub ruleset refusing = (err_from_is_err_and, is-refused)

@@ -53,7 +53,7 @@ module _ (S B C : List ℕ) (l : Layout) where
   abbrev pub month_causes : List (Bool × ℕ)
   month_causes = (not (firm_listed S l C), 21) ∷ (any_excess l firm_cells, 22) ∷ []
 
--- Numbers of refusal: 1 to 8, then 21 and 22; else what the schedule holds
+-- Numbers of refusal: those of schedule and book (1 to 8, 37, 38), then 21 and 22; else what the schedule holds
 unfoldable pub month_answer : (S B C : List ℕ) → Outcome Layout
 month_answer S B C = follow (check_book S (length B)) (λ l. asked (month_causes S B C l) (good l))
 

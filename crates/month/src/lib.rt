@@ -1,4 +1,4 @@
-// One firm's month out of the book: refused by 1 to 8, 21 or 22, or its verdicts, exemptions and marks without grants.
+// One firm's month out of the book: refused by 1 to 8, 21, 22, 37 or 38, or its verdicts, exemptions and marks without grants.
 #![tactic(auto)]
 
 mod days;

@@ -1,4 +1,4 @@
--- What the call comes to: the first of 1 to 8, 15 and 16; then the refusal of the month, or the reason for its place.
+-- What the call comes to: the first of 1 to 8, 37, 38, 15 and 16; then the refusal of the month, or the reason for its place.
 use Prim.Native.Nat.{ℕ, ◌+◌, ◌-◌, ◌*◌, ◌<◌}
 use mathlib.Core.Bool.{true, false, not}
 use mathlib.Core.List.{List}
@@ -32,7 +32,7 @@ inside S numbers {l} e day g h known =
     omega arith
 
 module _ (S B C : List ℕ) (day : ℕ) (code G : List ℕ) where
-  -- 1 to 8
+  -- 1 to 8, 37, 38
   pub is-refused : {n o : ℕ} → check_book S (length B) ≡ refused n o → reason_answer S B C day code G ≡ refused n o
   unfolding reason_answer
   is-refused e = rw e

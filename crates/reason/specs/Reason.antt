@@ -37,7 +37,7 @@ module _ (S : List ℕ) (day : ℕ) (code : List ℕ) (l : Layout) where
   abbrev pub unknown_causes : List (Bool × ℕ)
   unknown_causes = (not (group_listed S l code), 15) ∷ (not (has_day l.month day), 16) ∷ []
 
--- 2.7: refusals are those of the statement without 23, with 15 and 16 directly before 21, so after 1 to 8 (`granted_answer` asks these again, where none
+-- 2.7: refusals are those of the statement without 23, with 15 and 16 directly before 21, so after 1 to 8, 37 and 38 (`granted_answer` asks these again, where none
 -- refuses); else the reason for the day and group
 unfoldable pub reason_answer : (S B C : List ℕ) → (day : ℕ) → (code G : List ℕ) → Outcome Reason
 reason_answer S B C day code G =

@@ -30,7 +30,7 @@ use Rattle.statement.specs.Parts.{held_need, held_shown, HeldIs}
 use Rattle.statement.proofs.Shown.{marks-count, bytes-length, shown_same}
 
 module _ (S B C G out : List ℕ) where
-  -- 1 to 8, 21, 22, 34 and 35
+  -- 1 to 8, 37, 38, 21, 22, 34 and 35
   pub is-refused : {n o : ℕ} → granted_answer S B C G ≡ refused n o → StatementIs S B C G out (refused n o) out
   is-refused e = record { answer = rw e; output = rw e }
 

@@ -1,4 +1,4 @@
--- Refusals 1 to 8 are those of the check, and an unlisted firm is 21. A listed firm has one place, which fits a byte; then 22 is asked, and the rest is
+-- Refusals 1 to 8, 37, 38 are those of the check, and an unlisted firm is 21. A listed firm has one place, which fits a byte; then 22 is asked, and the rest is
 -- its month.
 use Rattle.std.proofs.Common.{◌≡◌, Err, sym, ◌∙◌}
 use Rattle.std.proofs.lemmas.Result.{err_from_is_err_and}

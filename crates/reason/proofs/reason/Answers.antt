@@ -1,4 +1,4 @@
--- Refusals 1 to 8 are those of the check; an unlisted group is 15 and a day that the month has not 16; then a refused month refuses, and the reason
+-- Refusals 1 to 8, 37, 38 are those of the check; an unlisted group is 15 and a day that the month has not 16; then a refused month refuses, and the reason
 -- for a place of a held month is that of the month.
 use Rattle.std.proofs.Common.{◌≡◌, ◌+◌, ◌-◌, ◌*◌, Err, refl, sym, ap, ◌∙◌}
 use Rattle.std.proofs.lemmas.Result.{err_from_is_err_and}
