@@ -8,7 +8,8 @@ ghost use Rattle.month.specs.Parts.{Sound};
 use lookup::Schedule;
 use rules::{GROUPS, Rules};
 
-// A schedule that was checked, with where its groups stand and the rules in force, and a firm whose numbers in the book are within the limit.
+// A schedule that was checked, with where its groups stand and the rules in force, and a firm whose numbers in the book are within the
+// limit.
 #[derive(Drop)]
 pub(crate) struct FirmBook<'a> {
     pub schedule: Schedule<'a>,
