@@ -25,13 +25,12 @@ use Rattle.rules.specs.Marks.{places, day_of, group_of, Judged, is_billed, grant
 use Rattle.rules.proofs.Bills.{none_granted, adds_up, dollars}
 use Rattle.rules.specs.declared.Rules.{Rules}
 use native.Mathlib.Nat.{mul-le-mul}
-use Rattle.rules.proofs.Laws.{laws as rules_laws}
 use Rattle.refusals.specs.Outcome.{Outcome, refused, good, follow}
 use Rattle.std.specs.Prelude.{Some}
 use Rattle.lookup.specs.Lookup.{group_at, firm_place, firm_listed, firm_found}
 use Rattle.schedule.specs.Check.{check_of}
 use Rattle.lookup.specs.InForce.{rules_of}
-use Rattle.schedule.proofs.Found.{rules-dollars, rules-falling}
+use Rattle.schedule.proofs.Found.{rules-dollars, rules-laws}
 use Rattle.lookup.specs.declared.Layout.{Layout}
 use Rattle.refusals.proofs.Outcomes.{refused-good, good_is}
 use Rattle.cell.specs.Cell.{FirmCells, cell_totals}
@@ -316,8 +315,7 @@ module _ (S C : List ℕ) (listed : is_listed S C ≡ true) where
   module _ (p q : Run S C) (h : Falls S C p.posts q.posts) (g : SameGrants S C p q) where
     lighter : (e : ℕ) → amount_of S C q e ≤ amount_of S C p e
     lighter e =
-        let P = rules_of S in
-        let falls = (rules_laws P (rules-falling S (opens S p.book p.opened).schedule)).lighter_amount (terms S (layout S)) (totals_after S C q.posts) (totals_after S C p.posts) in
+        let falls = (rules-laws S (opens S p.book p.opened).schedule).lighter_amount (terms S (layout S)) (totals_after S C q.posts) (totals_after S C p.posts) in
         subst (λ (G : List ℕ). amount_after S C q.posts G e ≤ amount_of S C p e) g.same (falls (named S (layout S) C p.grants) h g.none_severe e)
 
     lighter_dollars : DollarsFall S C p q

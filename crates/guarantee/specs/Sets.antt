@@ -1,5 +1,5 @@
 -- Computed examples of statements under sets of constants (document 02, 2.9): version 9.6 written out, a set without waivers, one with an edge of 0, one with
--- equal factors, and one with its own dollars; and a month in which traffic falls under a set.
+-- equal factors, and two with waivers, dollars and factors of their own; and a month in which traffic falls under a set.
 -- Assumes nothing.
 use Rattle.std.specs.Prelude.{ℕ, List, [], ◌∷◌, ◌++◌, ◌≡◌, refl}
 use Rattle.wire.specs.Bytes.{u16_at, u32_at}
@@ -9,6 +9,7 @@ use Rattle.wire.specs.Sums.{sum}
 use Rattle.calendar.specs.Calendar.{days_in}
 use Rattle.rules.specs.Verdict.{version96, verdict}
 use Rattle.rules.specs.Constants.{in_range, in_order}
+use Rattle.rules.specs.Sets.{own}
 use Rattle.rules.specs.declared.Rules.{Rules}
 use Rattle.records.specs.Fields.{head_fields, head_ok, constants_fields, group_fields, group_in_range, is_letter, firm_fields, firm_ok, has_code}
 use Rattle.contracts.specs.Listing.{contracts_ok, contract_bad, before, contract, listed}
@@ -23,7 +24,7 @@ use Rattle.activity.specs.Correction.{correction_fields}
 use Rattle.book.specs.Book.{check_book}
 use Rattle.book.specs.Post.{taking}
 use Rattle.accepted.specs.Accepted.{accepted_cells, posted}
-use Rattle.accepted.specs.Samples.{groups_under, orders, fifth, eleventh, three_groups, many_marks}
+use Rattle.accepted.specs.Samples.{groups_under, activity, orders, fifth, eleventh, three_groups, many_marks}
 use Rattle.month.specs.Month.{any_excess, month_answer}
 use Rattle.grants.specs.Month as months
 use Rattle.statement.specs.Lines.{line_at, tally, shown}
@@ -48,12 +49,13 @@ unwaived_bytes =
     ++ (20 ∷ 0 ∷ 19 ∷ 0 ∷ 1 ∷ 0 ∷ 4 ∷ 0 ∷ 0 ∷ 0 ∷ 0 ∷ 0 ∷ 0 ∷ 0 ∷ 4 ∷ 0 ∷ 160 ∷ 15 ∷ 0 ∷ 0 ∷ [])
     ++ no_violations
 
--- a first edge of 0: a day of one cancellation and no lots is severe, and a day without messages is not judged
+-- a first edge of 0: a day of one cancellation and no lots is severe; a day without messages is not judged, though it has a mass action request and so a
+-- score
 abbrev from_0 : Rules
 from_0 = record version96 { edge1 = 0 }
 
 abbrev one_message : List (List ℕ)
-one_message = orders 69 83 1 0 0 1 0 ∷ orders 69 83 2 0 0 0 0 ∷ []
+one_message = orders 69 83 1 0 0 1 0 ∷ activity 69 83 2 24239 0 0 0 0 1 0 0 0 ∷ []
 
 abbrev one_message_bytes : List ℕ
 one_message_bytes =
@@ -61,10 +63,10 @@ one_message_bytes =
     ++ (20 ∷ 0 ∷ 19 ∷ 0 ∷ 1 ∷ 0 ∷ 1 ∷ 0 ∷ 0 ∷ 0 ∷ 0 ∷ 0 ∷ 0 ∷ 0 ∷ 1 ∷ 0 ∷ 232 ∷ 3 ∷ 0 ∷ 0 ∷ [])
     ++ no_violations
 
--- equal factors, one waiver and 500 dollars: in the highest tier the fifth marked day passes, which fails with the factor 1; the eleventh, in the middle
--- one, is severe above three times its bound of 2
+-- equal factors, a severe multiple of 1 and 500 dollars: in the highest tier the fifth marked day passes, which fails with the factor 1; the eleventh, in the
+-- middle one, is above its bound and so severe
 abbrev equal : Rules
-equal = record version96 { factor1 = 2; factor3 = 2; severe = 1; waivers = 1; dollars = 500 }
+equal = record version96 { factor1 = 2; factor3 = 2; severe = 1; dollars = 500 }
 
 abbrev equal_run : List (List ℕ)
 equal_run = fifth 69 83 1 10000 ∷ eleventh 69 83 2 ∷ []
@@ -73,6 +75,34 @@ abbrev equal_bytes : List ℕ
 equal_bytes =
     (13 ∷ 0 ∷ 18 ∷ 0 ∷ 2 ∷ 69 ∷ 83 ∷ 1 ∷ 244 ∷ 1 ∷ 0 ∷ 0 ∷ 2 ∷ [])
     ++ (20 ∷ 0 ∷ 19 ∷ 0 ∷ 1 ∷ 0 ∷ 1 ∷ 0 ∷ 0 ∷ 0 ∷ 0 ∷ 0 ∷ 0 ∷ 0 ∷ 1 ∷ 0 ∷ 244 ∷ 1 ∷ 0 ∷ 0 ∷ [])
+    ++ no_violations
+
+-- edges 100, 200 and 300, factors 10, 7 and 7, twice as severe, one waiver of 500 dollars
+abbrev one_waiver : Rules
+one_waiver = record own { waivers = 1 }
+
+-- two days of 301 messages, which are ordinary violations of the highest tier: 80,100 against 70,000
+abbrev two_days : List (List ℕ)
+two_days = orders 69 83 1 0 51 250 10 ∷ orders 69 83 2 0 51 250 10 ∷ []
+
+-- a line's last byte is the set's factor; grouping 1: 2 0 1 0 1 500
+abbrev two_days_bytes : List ℕ
+two_days_bytes =
+    (13 ∷ 0 ∷ 18 ∷ 0 ∷ 1 ∷ 69 ∷ 83 ∷ 4 ∷ 0 ∷ 0 ∷ 0 ∷ 0 ∷ 7 ∷ [])
+    ++ (13 ∷ 0 ∷ 18 ∷ 0 ∷ 2 ∷ 69 ∷ 83 ∷ 2 ∷ 244 ∷ 1 ∷ 0 ∷ 0 ∷ 7 ∷ [])
+    ++ (20 ∷ 0 ∷ 19 ∷ 0 ∷ 1 ∷ 0 ∷ 2 ∷ 0 ∷ 0 ∷ 0 ∷ 1 ∷ 0 ∷ 0 ∷ 0 ∷ 1 ∷ 0 ∷ 244 ∷ 1 ∷ 0 ∷ 0 ∷ [])
+    ++ no_violations
+
+-- with a third day of 298 messages, a score of 1 and 10 lots more the month has 900 of them, at three times the third edge, so that it is in the middle tier,
+-- and a score of 1,603 in 30 lots, 160,300 against 210,000: it is exempt, and both violations are monthly
+abbrev exempt_days : List (List ℕ)
+exempt_days = orders 69 83 3 297 1 0 10 ∷ two_days
+
+abbrev exempt_bytes : List ℕ
+exempt_bytes =
+    (13 ∷ 0 ∷ 18 ∷ 0 ∷ 1 ∷ 69 ∷ 83 ∷ 3 ∷ 0 ∷ 0 ∷ 0 ∷ 0 ∷ 7 ∷ [])
+    ++ (13 ∷ 0 ∷ 18 ∷ 0 ∷ 2 ∷ 69 ∷ 83 ∷ 3 ∷ 0 ∷ 0 ∷ 0 ∷ 0 ∷ 7 ∷ [])
+    ++ (20 ∷ 0 ∷ 19 ∷ 0 ∷ 1 ∷ 0 ∷ 2 ∷ 0 ∷ 2 ∷ 0 ∷ 0 ∷ 0 ∷ 0 ∷ 0 ∷ 0 ∷ 0 ∷ 0 ∷ 0 ∷ 0 ∷ 0 ∷ [])
     ++ no_violations
 
 -- three waivers and 10,000 dollars
@@ -102,6 +132,10 @@ pub record Sets : Type 0 where
   pub under_96_answer : answers schedule 1 one_message [] ≡ good 40
   pub equal_answer : answers (schedule_under equal) 1 equal_run [] ≡ good 53
   pub equal_output : leaves (schedule_under equal) 1 equal_run [] ≡ equal_bytes ++ table 67 (λ i. 7)
+  pub two_days_answer : answers (schedule_under one_waiver) 1 two_days [] ≡ good 66
+  pub two_days_output : leaves (schedule_under one_waiver) 1 two_days [] ≡ two_days_bytes ++ table 54 (λ i. 7)
+  pub exempt_answer : answers (schedule_under one_waiver) 1 exempt_days [] ≡ good 66
+  pub exempt_output : leaves (schedule_under one_waiver) 1 exempt_days [] ≡ exempt_bytes ++ table 54 (λ i. 7)
   pub dear_answer : answers (schedule_under dear) 1 run [] ≡ good 92
   pub dear_output : leaves (schedule_under dear) 1 run [] ≡ dear_bytes ++ table 28 (λ i. 7)
   -- traffic falls under a set without waivers: with more lots on day 3 it passes, and is billed no longer
@@ -129,6 +163,10 @@ sets =
       under_96_answer = refl;
       equal_answer = refl;
       equal_output = refl;
+      two_days_answer = refl;
+      two_days_output = refl;
+      exempt_answer = refl;
+      exempt_output = refl;
       dear_answer = refl;
       dear_output = refl;
       eased_lighter = refl;

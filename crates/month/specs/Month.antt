@@ -1,4 +1,4 @@
--- A firm's month out of the book (document 01, "The month" and "Numbers of refusal", and document 02, 2.1, 2.3, 2.6 and 2.7). S is the schedule, l what
+-- A firm's month out of the book (document 01, "The month" and "Numbers of refusal", and document 02, 2.1, 2.3, 2.6, 2.7 and 2.9). S is the schedule, l what
 -- it holds, B the book, C the firm's code, f its place among the firms.
 -- Assumes nothing.
 use Rattle.std.specs.Prelude.{ℕ, Bool, not, ◌&&◌, List, [], ◌∷◌, Result, Ok, Err, IfOk, ◌≡◌, leb, length}

@@ -18,7 +18,7 @@ pub record Reason : Type 0 where
   pub mark : ℕ
   pub values : List ℕ
 
--- 2.7: both sides of the six-times comparison
+-- 2.7: both sides of the six-times comparison; 2.9: with the severe multiple in force
 abbrev pub sides_shown : Sides → List ℕ
 sides_shown s = s.scored ∷ s.allowed ∷ []
 
@@ -73,7 +73,8 @@ waiver_at groups (Some i) = record { day = day_of i; code = (groups (group_of i)
 
 module _ (groups : (g : ℕ) → Group) (sums : (g : ℕ) → MonthSums) (sides : (i : ℕ) → Sides) (grouping marks : (i : ℕ) → ℕ) where
   -- 2.7: by the mark: not a violation; severe, with both sides of the six-times comparison; monthly exempt, with R, S, V and d; automatic, its number; granted;
-  -- billed, with R, S, V and d and the day and group code of the last two automatic waivers in its grouping, the earlier first
+  -- billed, with R, S, V and d and the day and group code of the last two automatic waivers in its grouping, the earlier first; 2.9: zeros
+  -- for each missing one
   unfoldable pub values_at : (i : ℕ) → List ℕ
   values_at i =
       let w = waivers_in grouping marks (grouping i) in

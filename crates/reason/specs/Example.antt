@@ -114,7 +114,7 @@ pub record Example : Type 0 where
   pub no_waivers : under (record version96 { waivers = 0 }) 1 ES ≡ marked 2 (ES_sums ++ missing ++ missing)
   -- the sides go by the set's severe multiple and factor
   pub severe_at_once : under (record version96 { severe = 1 }) 4 ES ≡ marked 1 (14300000 ∷ 10000000 ∷ [])
-  pub equal_factors : under (record version96 { factor1 = 2; severe = 1 }) 1 CL ≡ marked 1 (3000000 ∷ 2000000 ∷ [])
+  pub own_factor : under (record version96 { factor2 = 1; severe = 2 }) 1 CL ≡ marked 1 (3000000 ∷ 2000000 ∷ [])
   -- version 9.6 written out says the same as leaving it out
   pub written_out : under version96 4 ES ≡ reason_answer all_days full_book ABC 4 ES []
   -- 15, also of codes of another length; 16, on day 0 and past the month
@@ -161,7 +161,7 @@ example =
       only_one = refl;
       no_waivers = refl;
       severe_at_once = refl;
-      equal_factors = refl;
+      own_factor = refl;
       written_out = refl;
       unknown_group = refl;
       short_code = refl;

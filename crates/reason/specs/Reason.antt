@@ -1,4 +1,4 @@
--- The reason beside the line (document 01, "The month", and document 02, 2.7). S is the schedule, l what it holds, B the book, C the firm's code, `code`
+-- The reason beside the line (document 01, "The month", and document 02, 2.7 and 2.9). S is the schedule, l what it holds, B the book, C the firm's code, `code`
 -- the group's, G the grants.
 -- Assumes nothing.
 use Rattle.std.specs.Prelude.{ℕ, ◌+◌, ◌-◌, ◌*◌, Bool, not, List, [], ◌∷◌, Result, Ok, Err, length}
@@ -18,7 +18,7 @@ use Rattle.reason.specs.Beside.{Reason, reason_of, reason_by}
 use Rattle.reason.specs.declared.Explanation.{Explanation}
 
 module _ (S B C G : List ℕ) (l : Layout) where
-  -- 2.7: both sides of the six-times comparison, of the cell of place i
+  -- 2.7: both sides of the six-times comparison (2.9: with the severe multiple in force), of the cell of place i
   abbrev pub sides_at : (i : ℕ) → Sides
   sides_at i = severe_sides (rules_of S) (group_at S l (group_of i)).benchmark 1 (firm_totals S B C l (group_of i) (day_of i))
 
@@ -37,8 +37,8 @@ module _ (S : List ℕ) (day : ℕ) (code : List ℕ) (l : Layout) where
   abbrev pub unknown_causes : List (Bool × ℕ)
   unknown_causes = (not (group_listed S l code), 15) ∷ (not (has_day l.month day), 16) ∷ []
 
--- 2.7: refusals are those of the statement without 23, with 15 and 16 directly before 21, so after 1 to 8, 37 and 38 (`granted_answer` asks these again, where none
--- refuses); else the reason for the day and group
+-- 2.7: refusals are those of the statement without 23, with 15 and 16 directly before 21, so after 1 to 8, 37 and 38 (`granted_answer` asks these again, where
+-- none refuses); else the reason for the day and group
 unfoldable pub reason_answer : (S B C : List ℕ) → (day : ℕ) → (code G : List ℕ) → Outcome Reason
 reason_answer S B C day code G =
     follow (check_book S (length B)) (λ l. asked (unknown_causes S day code l)

@@ -1,4 +1,4 @@
-// The reason beside a firm's day in a group (document 02, 2.7): the mark of its line, and what goes with it.
+// The reason beside a firm's day in a group (document 02, 2.7 and 2.9): the mark of its line, and what goes with it.
 #![tactic(auto)]
 
 mod firm;

@@ -55,13 +55,13 @@ pub enum Cause {
     MalformedGrant,
     // Its firm or group is unlisted, or its day is not in the month.
     NoSuchCell,
+    // Of a window and its new day: a total of the new day or of a day held is above the limit, the window holds more than twenty days, or
+    // its oldest's place is above 19.
+    BadWindow,
     // Of a schedule's constants: one is outside its range.
     BadConstant,
     // The edges don't rise strictly, or a factor is above the one before it.
     ConstantsOutOfOrder,
-    // Of a window and its new day: a total of the new day or of a day held is above the limit, the window holds more than twenty days, or
-    // its oldest's place is above 19.
-    BadWindow,
 }
 
 impl Cause {

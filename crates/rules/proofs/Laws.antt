@@ -1,5 +1,5 @@
 -- The laws of the rules, each from the file that proves it; what every lawful set keeps; and what the panel's number tells, refused or not.
-use Prim.Native.Nat.{ℕ, min}
+use Prim.Native.Nat.{ℕ, ◌≤◌, min}
 use mathlib.Core.Bool.{Bool, true, false, cond}
 use mathlib.Core.Path.{◌≡◌, refl, sym, ap}
 use native.Mathlib.Omega.{arith}
@@ -10,7 +10,8 @@ use Rattle.wire.proofs.Bools.{range}
 use Rattle.wire.proofs.Choose.{each}
 use Rattle.wire.proofs.Implies.{follows}
 use Rattle.rules.specs.Verdict.{version96, verdict, is_refused, decided, refusal, days_verdict, number_of, panel_number}
-use Rattle.rules.specs.Constants.{in_range, in_order, is_lawful, Falling}
+use Rattle.std.specs.Cmp.{first_so, second_so}
+use Rattle.rules.specs.Constants.{in_range, in_order, is_lawful, Falling, clamped}
 use Rattle.rules.specs.Laws.{Laws, LawfulSets, read_back, Panel}
 use Rattle.rules.specs.declared.Rules.{Rules}
 use Rattle.rules.specs.declared.Totals.{Totals}
@@ -42,19 +43,30 @@ lawful96 : is_lawful version96 ≡ true
 unfolding in_range in_order all
 lawful96 = refl
 
+-- the tests of a lawful set
+in_its_range : (P : Rules) → is_lawful P ≡ true → in_range P ≡ true
+in_its_range P e = first_so (in_range P) (in_order P) e
+
+in_its_order : (P : Rules) → is_lawful P ≡ true → in_order P ≡ true
+in_its_order P e = second_so (in_range P) (in_order P) e
+
+falls : (P : Rules) → is_lawful P ≡ true → Falling P
+unfolding in_order
+falls P e = let h = each _ (in_its_order P e) in record { second = leb-true _ _ h.1.1.0; third = leb-true _ _ h.1.1.1.0 }
+
+as_it_is : (P : Rules) → is_lawful P ≡ true → clamped P ≡ P
+unfolding in_range
+as_it_is P e =
+    let h = each _ (in_its_range P e) in
+    let f = h.1.1.1 in
+    rw (least_is 1 10 P.factor1 f.0, least_is 1 10 P.factor2 f.1.0, least_is 1 10 P.factor3 f.1.1.0, least_is 1 20 P.severe f.1.1.1.0) refl
+
+most-dollars : (P : Rules) → is_lawful P ≡ true → P.dollars ≤ 10000
+unfolding in_range
+most-dollars P e = let h = each _ (in_its_range P e) in (range 1 10000 P.dollars h.1.1.1.1.1.1.1.1.0).most
+
 pub lawful_sets : LawfulSets
-unfolding in_range in_order
-lawful_sets =
-    record {
-      as_it_is =
-          λ P e.
-          let h = each _ e in
-          let f = h.1.1.1 in
-          rw (least_is 1 10 P.factor1 f.0, least_is 1 10 P.factor2 f.1.0, least_is 1 10 P.factor3 f.1.1.0, least_is 1 20 P.severe f.1.1.1.0) refl;
-      falls = λ P e. let h = each _ e in record { second = leb-true _ _ h.1.1.0; third = leb-true _ _ h.1.1.1.0 };
-      dollars_fit = λ P e. let h = each _ e in (range 1 10000 P.dollars h.1.1.1.1.1.1.1.1.0).most;
-      of_96 = lawful96;
-    }
+lawful_sets = record { laws = λ P e. laws P (falls P e); falls = falls; as_it_is = as_it_is; most_dollars = most-dollars; of_96 = lawful96 }
 
 only_refused : (t : Totals) (B : ℕ) → eqb (panel_number t B) 24 ≡ is_refused 1 t B
 unfolding panel_number

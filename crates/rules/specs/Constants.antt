@@ -32,7 +32,7 @@ pub record Falling (P : Rules) : Type 0 where
   pub second : P.factor2 ≤ P.factor1
   pub third : P.factor3 ≤ P.factor2
 
--- a function over sets takes any numbers: it judges by those of the set, a factor above 10 as 10 and a severe multiple above 20 as 20
+-- a function that takes a set takes any numbers in it, a factor above 10 as 10 and a severe multiple above 20 as 20
 abbrev pub clamped : Rules → Rules
 clamped P =
     record P {

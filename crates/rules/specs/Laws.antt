@@ -3,7 +3,7 @@
 -- Proved in proofs/Laws.antt.
 -- Assumes nothing.
 use Rattle.std.specs.Prelude.{ℕ, ◌+◌, ◌*◌, ◌/◌, ◌%◌, ◌≤◌, ◌<◌, Bool, true, cond, ◌&&◌, ◌≡◌, ltb, eqb}
-use Rattle.rules.specs.Constants.{in_range, in_order, is_lawful, Falling, clamped}
+use Rattle.rules.specs.Constants.{is_lawful, Falling, clamped}
 use Rattle.rules.specs.Verdict.{version96, tier_factor, exceeds, verdict, is_violation, is_severe, is_refused, decided, refusal, days_verdict, number_of, panel_number}
 use Rattle.rules.specs.Month.{Terms, DailyTotals, exempt}
 use Rattle.rules.specs.Marks.{Judged, judged, violations, mark_without_grants, mark, marked, billed, amount}
@@ -38,11 +38,16 @@ pub record Laws (P : Rules) : Type 0 where
   -- and the amount is that of the billed
   pub dollars : (j : Judged) (e : ℕ) → amount P j e ≡ P.dollars * billed P j e
 
--- 2.9: every lawful set judges as it stands, keeps what the laws ask of it, and has dollars of which 992 fit 32 bits; version 9.6's numbers are one
+-- 2.9: one result covers every lawful set
 pub record LawfulSets : Type 0 where
-  pub as_it_is : (P : Rules) → in_range P ≡ true → clamped P ≡ P
-  pub falls : (P : Rules) → in_order P ≡ true → Falling P
-  pub dollars_fit : (P : Rules) → in_range P ≡ true → P.dollars ≤ 10000
+  pub laws : (P : Rules) → is_lawful P ≡ true → Laws P
+  -- its factors do not grow
+  pub falls : (P : Rules) → is_lawful P ≡ true → Falling P
+  -- it judges as it stands
+  pub as_it_is : (P : Rules) → is_lawful P ≡ true → clamped P ≡ P
+  -- and a day costs at most 10,000 dollars under it
+  pub most_dollars : (P : Rules) → is_lawful P ≡ true → P.dollars ≤ 10000
+  -- version 9.6's numbers are one
   pub of_96 : is_lawful version96 ≡ true
 
 -- the verdict that is read back from the panel's number

@@ -1,4 +1,4 @@
--- A firm's month: its counted days, their sums, and the monthly exemption (document 01, "The month"; the Program, section 10).
+-- A firm's month: its counted days, their sums, and the monthly exemption (document 01, "The month", and document 02, 2.9; the Program, section 10).
 -- Assumes nothing.
 use Rattle.std.specs.Prelude.{ℕ, ◌+◌, ◌*◌, Bool, cond, not, ◌&&◌, ◌||◌, leb, ltb}
 use Rattle.wire.specs.Sums.{sum}
@@ -40,7 +40,7 @@ module _ (s : Terms) (c : DailyTotals) where
         lots = over_counted 31 g (λ t. t.lots);
       }
 
--- The month: exempt when R ≤ 20,000 × d, or when 100 × S ≤ B × m × V, of d counted days with the sums t
+-- The month: exempt when R ≤ 20,000 × d (2.9: the first edge × d), or when 100 × S ≤ B × m × V, of d counted days with the sums t
 abbrev pub is_exempt : Rules → (B d : ℕ) → Totals → Bool
 is_exempt P B d t = leb t.raw (P.edge1 * d) || not (exceeds P B d t)
 

@@ -8,7 +8,7 @@ use Rattle.rules.specs.Marks.{cost}
 use Rattle.rules.specs.Constants.{in_range, in_order, clamped}
 use Rattle.rules.specs.declared.Rules.{Rules}
 
--- the least of every range and the greatest, with two equal factors in each; edges that start at 0, and ones that end at 1,000,000
+-- the least of every range and the greatest, each with equal factors; edges that start at 0, and ones that end at 1,000,000
 abbrev least : Rules
 least = record { edge1 = 0; edge2 = 1; edge3 = 2; factor1 = 1; factor2 = 1; factor3 = 1; severe = 1; waivers = 0; dollars = 1 }
 
@@ -56,6 +56,7 @@ pub record Sets : Type 0 where
   pub falling_edges : in_order (record version96 { edge3 = 30000 }) ≡ false
   pub rising_low : in_order (record version96 { factor2 = 4 }) ≡ false
   pub rising_high : in_order (record version96 { factor3 = 3 }) ≡ false
+  pub equal_in_range : in_range (record version96 { edge2 = 20000 }) ≡ true
   pub rising_in_range : in_range (record version96 { factor3 = 3 }) ≡ true
   -- at an edge the lower tier; a pass keeps code 3, 2 or 1 by tier, with the set's factor beside it
   pub not_judged : verdict own 1000 1 (record { raw = 100; score = 900; lots = 0 }) ≡ record { code = 0; factor = 0 }
@@ -66,7 +67,8 @@ pub record Sets : Type 0 where
   pub ordinary : verdict own 1000 1 (record { raw = 301; score = 1400; lots = 10 }) ≡ record { code = 4; factor = 7 }
   pub severe : verdict own 1000 1 (record { raw = 301; score = 1401; lots = 10 }) ≡ record { code = 5; factor = 7 }
   pub sides : severe_sides own 1000 1 (record { raw = 301; score = 1401; lots = 10 }) ≡ record { scored = 140100; allowed = 140000 }
-  -- an edge of 0 judges a day with one message
+  -- an edge of 0 judges a day with one message, and none without
+  pub no_message : verdict least 1000 1 (record { raw = 0; score = 3; lots = 0 }) ≡ record { code = 0; factor = 0 }
   pub one_message : verdict least 1000 1 (record { raw = 1; score = 3; lots = 0 }) ≡ record { code = 5; factor = 1 }
   -- why no factor may be above the one before it: with 1 and 3 a day fails that would pass with a message more
   pub fewer_fails : is_violation (verdict rising 1000 1 (record { raw = 40000; score = 20; lots = 1 })).code ≡ true
@@ -103,6 +105,7 @@ sets =
       falling_edges = refl;
       rising_low = refl;
       rising_high = refl;
+      equal_in_range = refl;
       rising_in_range = refl;
       not_judged = refl;
       low_pass = refl;
@@ -111,6 +114,7 @@ sets =
       ordinary = refl;
       severe = refl;
       sides = refl;
+      no_message = refl;
       one_message = refl;
       fewer_fails = refl;
       more_passes = refl;

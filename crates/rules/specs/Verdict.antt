@@ -114,6 +114,6 @@ number_of v = 10 * v.code + v.factor
 unfoldable pub panel_number : Totals → (B : ℕ) → ℕ
 panel_number t B = cond (is_refused 1 t B) 24 (number_of (verdict version96 B 1 t))
 
--- 2.7: the sides of a day's six-times comparison, where 24 does not refuse the day
+-- 2.7: the sides of a day's six-times comparison (2.9: with the severe multiple in force), where 24 does not refuse the day
 unfoldable pub day_sides : Rules → Totals → (B : ℕ) → Option Sides
 day_sides P t B = cond (is_refused 1 t B) None (Some (severe_sides P B 1 t))

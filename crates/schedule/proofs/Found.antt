@@ -10,7 +10,8 @@ use Rattle.std.proofs.lemmas.Slice.Eq.{bytes_eq-Decides}
 use Rattle.wire.specs.Choose.{within}
 use Rattle.wire.proofs.Choose.{each, none_at}
 use Rattle.rules.specs.Verdict.{is_benchmark}
-use Rattle.rules.specs.Constants.{Falling, clamped}
+use Rattle.rules.specs.Constants.{clamped}
+use Rattle.rules.specs.Laws.{Laws}
 use Rattle.rules.proofs.Laws.{lawful_sets}
 use Rattle.records.specs.Bodies.{rest_at}
 use Rattle.records.specs.Fields.{are_letters, group_fields, group_in_range}
@@ -56,15 +57,15 @@ module _ (S : List ℕ) {l : Layout} (e : check_of S ≡ good l) where
   pub group-listed : (g : ℕ) → g < l.groups → InRange (group_at S l g)
   group-listed g h = in_range (group_at S l g) ((good-schedule S e).ranges g h)
 
-  -- 2.9: the constants in force are judged by as they are, their dollars fit, and their factors do not grow
+  -- 2.9: the constants in force are judged by as they are, a day costs at most 10,000 dollars under them, and the laws hold of them
   pub rules-clamped : clamped (rules_of S) ≡ rules_of S
-  rules-clamped = lawful_sets.as_it_is (rules_of S) (good-schedule S e).ranged
+  rules-clamped = lawful_sets.as_it_is (rules_of S) (good-schedule S e).lawful
 
   pub rules-dollars : (rules_of S).dollars ≤ 10000
-  rules-dollars = lawful_sets.dollars_fit (rules_of S) (good-schedule S e).ranged
+  rules-dollars = lawful_sets.most_dollars (rules_of S) (good-schedule S e).lawful
 
-  pub rules-falling : Falling (rules_of S)
-  rules-falling = lawful_sets.falls (rules_of S) (good-schedule S e).ordered
+  pub rules-laws : Laws (rules_of S)
+  rules-laws = lawful_sets.laws (rules_of S) (good-schedule S e).lawful
 
   -- a listed group's code is that by which it is found
   code_found : (g : ℕ) → g < l.groups → (group_fields (rest_at S (group_start S l.first g))).code ≡ (group_at S l g).code

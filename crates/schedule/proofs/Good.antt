@@ -15,8 +15,7 @@ use Rattle.std.specs.Cmp.{first_so, second_so}
 use Rattle.wire.proofs.Bools.{range, in_range as is-within}
 use Rattle.wire.proofs.Choose.{here, next, done, chosen, none_at, choose_most, every}
 use Rattle.records.specs.Bodies.{length_at, kind_at, rest_at, body_at, head_size, constants_size, least_group, largest_group, group_kind, firm_size}
-use Rattle.rules.specs.Verdict.{version96}
-use Rattle.rules.specs.Constants.{in_range, in_order}
+use Rattle.rules.specs.Constants.{in_range, in_order, is_lawful}
 use Rattle.rules.proofs.Laws.{lawful_sets}
 use Rattle.records.specs.Fields.{head_fields, head_ok, constants_fields, group_fields, group_in_range, firm_fields, has_code}
 use Rattle.records.proofs.Parts.{code-letters}
@@ -118,8 +117,7 @@ record Bare (f n : ℕ) : Type 0 where
 record InForce (S : List ℕ) (f : ℕ) : Type 0 where
   first : f ≡ groups_from S
   size : has_constants S ≡ true → length_at S head_size ≡ constants_size
-  ranged : in_range (rules_of S) ≡ true
-  ordered : in_order (rules_of S) ≡ true
+  lawful : is_lawful (rules_of S) ≡ true
 
 -- what the records read so far hold
 record Sound (S : List ℕ) (p : Cursor) : Type 0 where
@@ -227,7 +225,7 @@ given_constants : (S : List ℕ) (f : ℕ) → has_constants S ≡ true → f �
     → in_range (constants_fields (body_at S head_size)) ≡ true → in_order (constants_fields (body_at S head_size)) ≡ true → InForce S f
 unfolding rules_of
 given_constants S f e q size ranged ordered =
-    record { first = rw e q; size = λ h. size; ranged = rw e ranged; ordered = rw e ordered }
+    record { first = rw e q; size = λ h. size; lawful = rw (e, ranged, ordered) refl }
 
 constants_of_96 : (S : List ℕ) (f : ℕ) → has_constants S ≡ false → f ≡ head_size → InForce S f
 unfolding rules_of
@@ -235,8 +233,7 @@ constants_of_96 S f e q =
     record {
       first = rw e q;
       size = λ h. absurd (false≢true (sym e ∙ h));
-      ranged = rw e (first_so (in_range version96) _ lawful_sets.of_96);
-      ordered = rw e (second_so (in_range version96) _ lawful_sets.of_96);
+      lawful = rw e lawful_sets.of_96;
     }
 
 -- so the constants in force are known where a group stands at `at`
@@ -391,8 +388,7 @@ good-schedule S {l} e =
       ends = omega (arith, s.place pos, f.inside, q.over);
       short = omega (arith, f.near, f.groups, f.firms, q.over);
       constants = c.size;
-      ranged = c.ranged;
-      ordered = c.ordered;
+      lawful = c.lawful;
       month = h.month;
       closed = h.closed;
       head = h.fields;

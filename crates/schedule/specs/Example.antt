@@ -1,13 +1,13 @@
 -- Computed examples of schedules with a record of constants (document 02, 2.9): where it is due, what refuses it and in which order, and where the groups start.
 -- Assumes nothing.
-use Rattle.std.specs.Prelude.{ℕ, ◌+◌, List, ◌++◌, ◌≡◌, refl, take}
-use Rattle.wire.specs.Bytes.{u16_at, u32_at, u16_bytes}
+use Rattle.std.specs.Prelude.{ℕ, ◌+◌, List, ◌++◌, ◌≡◌, refl, take, drop}
+use Rattle.wire.specs.Bytes.{u16_at, u32_at, u16_bytes, u32_bytes}
 use Rattle.wire.specs.Choose.{choose, all, seek_in}
 use Rattle.calendar.specs.Calendar.{days_in}
 use Rattle.rules.specs.Verdict.{version96}
 use Rattle.rules.specs.Constants.{in_range, in_order}
 use Rattle.rules.specs.declared.Rules.{Rules}
-use Rattle.records.specs.Bodies.{constants_kind}
+use Rattle.records.specs.Bodies.{head_kind, constants_kind, head_size}
 use Rattle.records.specs.Fields.{head_fields, head_ok, constants_fields, group_fields, group_in_range, is_letter, firm_fields, firm_ok, has_code}
 use Rattle.contracts.specs.Listing.{contracts_ok, contract_bad, before, contract, listed}
 use Rattle.refusals.specs.Outcome.{Outcome, refused, good}
@@ -37,6 +37,10 @@ held first = good (record { month = 24237; closed = 0; first = first; groups = 1
 abbrev of_length : (len : ℕ) → List ℕ
 of_length len = with_group (head 0 ++ u16_bytes len ++ u16_bytes constants_kind ++ take 26 (constants own))
 
+-- a head of a month that is none
+abbrev bad_head : List ℕ
+bad_head = u16_bytes head_size ++ u16_bytes head_kind ++ u16_bytes 23999 ++ u32_bytes 0
+
 pub record Example : Type 0 where
   -- the groups start behind the constants, which are in force
   pub given : check_of (behind_head own) ≡ held 38
@@ -59,9 +63,11 @@ pub record Example : Type 0 where
   pub long : check_of (of_length 29) ≡ refused 3 10
   pub cut : check_of (head 0 ++ take 27 (constants own)) ≡ refused 1 10
   pub cut_at_3 : check_of (head 0 ++ take 3 (constants own)) ≡ refused 1 10
-  -- 2 before 3, 3 before 1 and 37
+  -- 2 before 3, 3 before 1 and 37, 1 before 37; and record by record
   pub second_long : check_of (head 0 ++ constants own ++ u16_bytes 29 ++ u16_bytes constants_kind) ≡ refused 2 38
   pub cut_and_long : check_of (head 0 ++ u16_bytes 29 ++ u16_bytes constants_kind) ≡ refused 3 10
+  pub long_and_past : check_of (with_group (head 0 ++ u16_bytes 29 ++ drop 2 (constants (record own { factor1 = 11 })))) ≡ refused 3 10
+  pub bad_head_first : check_of (with_group (bad_head ++ constants (record own { factor1 = 11 }))) ≡ refused 5 0
   pub cut_and_past : check_of (head 0 ++ take 20 (constants (record own { factor1 = 11 }))) ≡ refused 1 10
   -- 37 before 38, and 38 where every constant is in its range
   pub past_range : check_of (behind_head (record own { factor1 = 11 })) ≡ refused 37 10
@@ -99,6 +105,8 @@ example =
       cut_at_3 = refl;
       second_long = refl;
       cut_and_long = refl;
+      long_and_past = refl;
+      bad_head_first = refl;
       cut_and_past = refl;
       past_range = refl;
       wide_factor = refl;

@@ -3,7 +3,7 @@
 -- Assumes nothing.
 use Rattle.std.specs.Prelude.{ℕ, ◌+◌, ◌*◌, ◌≤◌, ◌<◌, Bool, true, false, ◌||◌, List, Some, None, ◌≡◌, length}
 use Rattle.wire.specs.Choose.{within}
-use Rattle.rules.specs.Constants.{in_range, in_order}
+use Rattle.rules.specs.Constants.{is_lawful}
 use Rattle.rules.specs.Marks.{most_groups}
 use Rattle.records.specs.Bodies.{length_at, kind_at, body_at, head_kind, group_kind, firm_kind, head_size, constants_size, firm_size}
 use Rattle.records.specs.Fields.{head_fields, head_ok, group_in_range, firm_fields, firm_ok}
@@ -38,7 +38,7 @@ pub record GoodSchedule (S : List ℕ) (l : Layout) : Type 0 where
   pub few_groups : l.groups ≤ most_groups
   pub some_firm : 1 ≤ l.firms
   pub few_firms : l.firms ≤ most_firms
-  -- the head stands first, the groups follow it, 2.9: behind the constants where there are any, the firms the groups, and nothing the firms
+  -- the head stands first, then the constants where there are any (2.9), then the groups, then the firms, and nothing after them
   pub head_first : kind_at S 0 ≡ head_kind
   pub head_length : length_at S 0 ≡ head_size
   pub first : l.first ≡ groups_from S
@@ -48,8 +48,7 @@ pub record GoodSchedule (S : List ℕ) (l : Layout) : Type 0 where
   pub short : length S ≤ 6046
   -- 2.9: constants have 28 bytes, and those in force are a lawful set, whether the schedule gives them or not
   pub constants : has_constants S ≡ true → length_at S head_size ≡ constants_size
-  pub ranged : in_range (rules_of S) ≡ true
-  pub ordered : in_order (rules_of S) ≡ true
+  pub lawful : is_lawful (rules_of S) ≡ true
   -- the head's fields, in range: a month number, and no bit past the month's end
   pub month : l.month ≡ (head_fields (body_at S 0)).month
   pub closed : l.closed ≡ (head_fields (body_at S 0)).closed
