@@ -2,3 +2,4 @@ pub mod Numbers
 pub mod Turns
 pub mod Good
 pub mod Found
+pub mod Given

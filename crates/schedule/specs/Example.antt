@@ -1,11 +1,11 @@
 -- Computed examples of schedules with a record of constants (document 02, 2.9): where it is due, what refuses it and in which order, and where the groups start.
 -- Assumes nothing.
-use Rattle.std.specs.Prelude.{ℕ, ◌+◌, List, ◌++◌, ◌≡◌, refl, take, drop}
+use Rattle.std.specs.Prelude.{ℕ, ◌+◌, true, List, ◌++◌, ◌≡◌, refl, take, drop}
 use Rattle.wire.specs.Bytes.{u16_at, u32_at, u16_bytes, u32_bytes}
 use Rattle.wire.specs.Choose.{choose, all, seek_in}
 use Rattle.calendar.specs.Calendar.{days_in}
 use Rattle.rules.specs.Verdict.{version96}
-use Rattle.rules.specs.Constants.{in_range, in_order}
+use Rattle.rules.specs.Constants.{in_range, in_order, is_lawful}
 use Rattle.rules.specs.declared.Rules.{Rules}
 use Rattle.records.specs.Bodies.{head_kind, constants_kind, head_size}
 use Rattle.records.specs.Fields.{head_fields, head_ok, constants_fields, group_fields, group_in_range, is_letter, firm_fields, firm_ok, has_code}
@@ -40,6 +40,10 @@ of_length len = with_group (head 0 ++ u16_bytes len ++ u16_bytes constants_kind 
 -- a head of a month that is none
 abbrev bad_head : List ℕ
 bad_head = u16_bytes head_size ++ u16_bytes head_kind ++ u16_bytes 23999 ++ u32_bytes 0
+
+-- every lawful set can be given: behind a head its record puts it in force. Proved in proofs/Given.antt
+abbrev pub EverySet : Type 0
+EverySet = (P : Rules) → is_lawful P ≡ true → (closed : ℕ) (rest : List ℕ) → rules_of (head closed ++ constants P ++ rest) ≡ P
 
 pub record Example : Type 0 where
   -- the groups start behind the constants, which are in force
