@@ -109,7 +109,7 @@ def odd_set(r, c):
 
 
 def misplaced_set(r, month):
-    """One set of constants more, anywhere: a second one, or one that is not directly after the head."""
+    """One set of constants more, anywhere: a second one, one that is not directly after the head, or by chance a due one."""
     records = month.records()
     last = r.choice((2, len(month.schedule()), len(records)))
     records.insert(r.randint(0, last), r.choice((constants(), odd_set(r, month.constants()))))

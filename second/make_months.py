@@ -1,9 +1,9 @@
 """Random months for mep-statement and for scripts of calls.
 
-Two months in five have a set of constants of their own. A cell's totals are chosen first, at or about the bounds that decide
-its verdict and its month's exemption under the constants that hold, and then spread over messages, contracts and records; so
-every mark comes often, and comparisons are tried where they turn. In some cells a correction gives the totals, and activity
-before or after it others.
+Two months in five have a record of constants, some of them with version 9.6's numbers. A cell's totals are chosen first, at
+or about the bounds that decide its verdict and its month's exemption under the constants that hold, and then spread over
+messages, contracts and records; so every mark comes often, and comparisons are tried where they turn. In some cells a
+correction gives the totals, and activity before or after it others.
 """
 from dataclasses import asdict, dataclass
 from itertools import accumulate

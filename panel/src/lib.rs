@@ -15,9 +15,9 @@ pub enum Verdict {
     NotJudged,
     /// Codes 3, 2 and 1: the score is within the benchmark times the tier's factor times the lots.
     Pass { factor: u8 },
-    /// Code 4: a failed day that the month or an automatic waiver may still excuse.
+    /// Code 4: a failed day that the month, an automatic waiver or a grant may still excuse.
     Ordinary { factor: u8 },
-    /// Code 5: above six times the bound, so always billed.
+    /// Code 5: above six times the bound, so billed unless a grant names it.
     Severe { factor: u8 },
     /// Number 24: a total above 10,000,000,000, or a benchmark outside 1 to 100,000.
     Refused,

@@ -1,4 +1,4 @@
--- The check of schedule and book is 1 to 7 of the schedule, then 8 or good by the book's room: so a book that it takes has room for every
+-- The check of schedule and book is 1 to 7, 37 and 38 of the schedule, then 8 or good by the book's room: so a book that it takes has room for every
 -- cell of a good schedule.
 use Prim.Native.Nat.{ℕ, ◌≤◌}
 use mathlib.Core.Bool.{Bool, true, false, cond}

@@ -1,5 +1,5 @@
 -- Beside demand 3, of the same runs: what each line of a statement shows of its place, byte by byte (document 01, "The book and its calls",
--- statement, and document 02, 2.1 and 2.6). Proved in proofs/EachLine.antt: of every schedule and every firm that it lists.
+-- statement, and document 02, 2.1, 2.6 and 2.9). Proved in proofs/EachLine.antt: of every schedule and every firm that it lists.
 -- Assumes nothing.
 use Rattle.std.specs.Prelude.{ℕ, ◌*◌, ◌<◌, Bool, true, List, ◌≡◌, drop}
 use Rattle.wire.specs.Sums.{count}

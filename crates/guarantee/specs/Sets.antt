@@ -1,5 +1,5 @@
 -- Computed examples of statements under sets of constants (document 02, 2.9): version 9.6 written out, a set without waivers, one with an edge of 0, one with
--- equal factors, and two with waivers, dollars and factors of their own; and a month in which traffic falls under a set.
+-- equal factors, and two with waivers and dollars of their own, one of them with its own edges and factors too; and a month in which traffic falls under a set.
 -- Assumes nothing.
 use Rattle.std.specs.Prelude.{ℕ, List, [], ◌∷◌, ◌++◌, ◌≡◌, refl}
 use Rattle.wire.specs.Bytes.{u16_at, u32_at}
@@ -77,7 +77,7 @@ equal_bytes =
     ++ (20 ∷ 0 ∷ 19 ∷ 0 ∷ 1 ∷ 0 ∷ 1 ∷ 0 ∷ 0 ∷ 0 ∷ 0 ∷ 0 ∷ 0 ∷ 0 ∷ 1 ∷ 0 ∷ 244 ∷ 1 ∷ 0 ∷ 0 ∷ [])
     ++ no_violations
 
--- edges 100, 200 and 300, factors 10, 7 and 7, twice as severe, one waiver of 500 dollars
+-- edges 100, 200 and 300, factors 10, 7 and 7, severe multiple 2, one waiver, 500 dollars
 abbrev one_waiver : Rules
 one_waiver = record own { waivers = 1 }
 
@@ -93,8 +93,8 @@ two_days_bytes =
     ++ (20 ∷ 0 ∷ 19 ∷ 0 ∷ 1 ∷ 0 ∷ 2 ∷ 0 ∷ 0 ∷ 0 ∷ 1 ∷ 0 ∷ 0 ∷ 0 ∷ 1 ∷ 0 ∷ 244 ∷ 1 ∷ 0 ∷ 0 ∷ [])
     ++ no_violations
 
--- with a third day of 298 messages, a score of 1 and 10 lots more the month has 900 of them, at three times the third edge, so that it is in the middle tier,
--- and a score of 1,603 in 30 lots, 160,300 against 210,000: it is exempt, and both violations are monthly
+-- with a third day of 298 messages, a score of 1 and 10 lots the month has 900 messages, three times the third edge, so it is in the middle tier; its score is
+-- 1,603 in 30 lots, 160,300 against 210,000: it is exempt, and both violations are monthly
 abbrev exempt_days : List (List ℕ)
 exempt_days = orders 69 83 3 297 1 0 10 ∷ two_days
 

@@ -1,5 +1,5 @@
--- Computed examples of reasons (document 02, 2.7): every answer, in a month with both exchange groupings; the sides of severe days; two waivers of one day;
--- reasons under sets of constants (2.9); days and groups that the schedule doesn't know, and the order of refusals.
+-- Computed examples of reasons (document 02, 2.7 and 2.9): every answer, in a month with both exchange groupings; the sides of severe days; two waivers of one day;
+-- reasons under sets of constants; days and groups that the schedule doesn't know, and the order of refusals.
 -- Assumes nothing.
 use Rattle.std.specs.Prelude.{ℕ, ◌*◌, List, [], ◌∷◌, ◌++◌, ◌≡◌, refl, take}
 use Rattle.wire.specs.Bytes.{u16_at, u32_at}

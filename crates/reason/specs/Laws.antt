@@ -90,7 +90,8 @@ module _ (S B C G : List ℕ) (l : Layout) where
         pub named : j.named i ≡ true
         pub would_cost : is_billed (mark_without_grants P j i) ≡ true
 
-      -- 2.7, billed: the sums fail the exemption, and the last two automatic waivers of its grouping are shown after them
+      -- 2.7, billed: the sums fail the exemption, and the last two automatic waivers of its grouping are shown after them; 2.9: zeros for each
+      -- missing one
       pub record BilledIs : Type 0 where
         pub waivers : List ℕ
         pub shown : values ≡ month_values ++ waivers

@@ -37,7 +37,7 @@ pub enum Explanation {
         number: u16,
     },
     Granted,
-    // R, S, V and d, and the last two automatic waivers of its exchange grouping, the earlier first.
+    // R, S, V and d, and the last two automatic waivers of its exchange grouping, the earlier first; zeros for each missing one.
     Billed {
         sums: MonthSums,
         first: Waiver,

@@ -1,4 +1,4 @@
--- What a call comes to (document 01, "Numbers of refusal").
+-- What a call comes to (document 01, "Numbers of refusal", and document 02).
 -- Assumes nothing.
 use Rattle.std.specs.Prelude.{ℕ, Bool, cond, List, ◌++◌, Result, Ok, Err, eqb, codes}
 use Rattle.std.specs.Fmt.{decimal}
@@ -22,7 +22,7 @@ abbrev pub given : {A B : Type 0} → Outcome A → B → (A → B) → B
 given (refused number offset) b f = b
 given (good a) b f = f a
 
--- Numbers of refusal, from 8 on: causes are asked top to bottom; the first that holds refuses, with the offset 0, and where none does there comes what
+-- Numbers of refusal, from 8 on (2.9: but for 37 and 38): causes are asked top to bottom; the first that holds refuses, with the offset 0, and where none does there comes what
 -- comes next
 abbrev pub asked : {A : Type 0} → (causes : List (Bool × ℕ)) → Outcome A → Outcome A
 asked causes next = let n = choose causes 0 in cond (eqb n 0) next (refused n 0)

@@ -26,7 +26,7 @@ greatest =
       dollars = 10000;
     }
 
--- a set of its own: edges 100, 200 and 300, factors 10, 7 and 7, twice as severe, three waivers of 500 dollars
+-- a set of its own: edges 100, 200 and 300, factors 10, 7 and 7, severe multiple 2, three waivers, 500 dollars
 abbrev pub own : Rules
 own = record { edge1 = 100; edge2 = 200; edge3 = 300; factor1 = 10; factor2 = 7; factor3 = 7; severe = 2; waivers = 3; dollars = 500 }
 

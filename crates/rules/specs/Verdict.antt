@@ -1,4 +1,4 @@
--- The Program's constants, and the verdict on totals (document 01, "The day's verdict", and document 02, 2.1 and 2.7; the Program, sections 2 to 5
+-- The Program's constants, and the verdict on totals (document 01, "The day's verdict", and document 02, 2.1, 2.7 and 2.9; the Program, sections 2 to 5
 -- and 8). `Rules`, `Totals`, `Sides` and `Verdict` are the structs of src/lib.rt. Totals are those of d days: a day's own for d = 1, a month's sums for
 -- its d counted days (document 01, "The month"). P are the constants; the numbers in document 01's sentences are version 9.6's, and a schedule may give others
 -- (2.9; Constants.antt has which).

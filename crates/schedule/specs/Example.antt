@@ -1,4 +1,5 @@
--- Computed examples of schedules with a record of constants (document 02, 2.9): where it is due, what refuses it and in which order, and where the groups start.
+-- Computed examples of schedules with a record of constants (document 02, 2.9): where it is due, what refuses it and in which order, and where the groups start;
+-- and that it puts any lawful set in force.
 -- Assumes nothing.
 use Rattle.std.specs.Prelude.{ℕ, ◌+◌, true, List, ◌++◌, ◌≡◌, refl, take, drop}
 use Rattle.wire.specs.Bytes.{u16_at, u32_at, u16_bytes, u32_bytes}
@@ -41,7 +42,7 @@ of_length len = with_group (head 0 ++ u16_bytes len ++ u16_bytes constants_kind 
 abbrev bad_head : List ℕ
 bad_head = u16_bytes head_size ++ u16_bytes head_kind ++ u16_bytes 23999 ++ u32_bytes 0
 
--- every lawful set can be given: behind a head its record puts it in force. Proved in proofs/Given.antt
+-- behind a head, the record of a lawful set puts that set in force, whatever follows. Proved in proofs/Given.antt
 abbrev pub EverySet : Type 0
 EverySet = (P : Rules) → is_lawful P ≡ true → (closed : ℕ) (rest : List ℕ) → rules_of (head closed ++ constants P ++ rest) ≡ P
 
@@ -80,7 +81,7 @@ pub record Example : Type 0 where
   pub both : check_of (behind_head (record own { edge2 = 0; dollars = 0 })) ≡ refused 37 10
   pub equal_edges : check_of (behind_head (record own { edge2 = 0 })) ≡ refused 38 10
   pub rising_factor : check_of (behind_head (record own { factor3 = 9 })) ≡ refused 38 10
-  -- a schedule may end behind its constants for want of a firm
+  -- 4: a schedule that ends behind its constants, or behind a group
   pub then_nothing : check_of (head 0 ++ constants own) ≡ refused 4 38
   pub no_firm : check_of (head 0 ++ constants own ++ group 69 83 1) ≡ refused 4 56
 
