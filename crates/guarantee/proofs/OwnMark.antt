@@ -297,7 +297,7 @@ module _ (S B C G out : List ℕ) (day : ℕ) (code : List ℕ) {n : ℕ} {r : R
           record {
             a = its_number t.a;
             b = its_number t.b;
-            are = t.are ∙ sym (ap₂ (λ (xs ys : List ℕ). xs ++ ys) (named-at t.a in_a t.first) (named-at t.b in_b t.second));
+            codes = t.codes ∙ sym (ap₂ (λ (xs ys : List ℕ). xs ++ ys) (named-at t.a in_a t.first) (named-at t.b in_b t.second));
             first = to_line t.a in_a t.first;
             second = to_line t.b in_b t.second;
             earlier = count_before t.b fails_at t.a t.earlier (fails-there t.a t.first);
@@ -315,7 +315,7 @@ module _ (S B C G out : List ℕ) (day : ℕ) (code : List ℕ) {n : ℕ} {r : R
           let in_a : t.a < places = omega (arith, t.before, is.place.inside) in
           record {
             a = its_number t.a;
-            are = t.are ∙ sym (ap (λ (xs : List ℕ). xs ++ missing) (named-at t.a in_a t.first));
+            codes = t.codes ∙ sym (ap (λ (xs : List ℕ). xs ++ missing) (named-at t.a in_a t.first));
             first = to_line t.a in_a t.first;
             before = count_before is.i fails_at t.a t.before (fails-there t.a t.first);
             no_other = λ k l w. let (i, at) = its-place k l in sym at.number ∙ ap its_number (t.no_other i at.inside (from_line k w i at));
@@ -324,7 +324,7 @@ module _ (S B C G out : List ℕ) (day : ℕ) (code : List ℕ) {n : ℕ} {r : R
       no-lines : NoneTaken places is.i at_place (day_and_code S B C G is.l) shown
           → NoneTaken L (its_number is.i) at_line code_at shown
       no-lines t =
-          record { are = t.are; no_other = λ k l w. let (i, at) = its-place k l in t.no_other i at.inside (from_line k w i at) }
+          record { codes = t.codes; no_other = λ k l w. let (i, at) = its-place k l in t.no_other i at.inside (from_line k w i at) }
 
     waiver-lines : WaiverLines S (statement_output S B C G out) n day code r.values
     waiver-lines =

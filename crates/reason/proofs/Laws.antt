@@ -26,7 +26,7 @@ use Rattle.reason.proofs.ByMark.{no-violation, severe-reason, billed-reason, mon
 use Rattle.reason.specs.declared.waivers.LastTwo.{LastTwo}
 use Rattle.std.specs.Prelude.{Some, None}
 use Rattle.reason.proofs.Answered.{Answered, answered, placed}
-use Rattle.reason.proofs.Severe.{tier, above_six}
+use Rattle.reason.proofs.Severe.{tier, above_multiple}
 use Rattle.reason.proofs.Waived.{waived, waived-count, none_counted, none_last, after_first, two_before, one_before}
 
 module _ (S B C : List ℕ) (day : ℕ) (code G : List ℕ) {s : Reason} (a : Answered S B C day code G s) where
@@ -66,7 +66,7 @@ module _ (S B C : List ℕ) (day : ℕ) (code G : List ℕ) {s : Reason} (a : An
   severe_true m =
       let code : is_severe (j.verdict i).code ≡ true = first_so (is_severe (j.verdict i).code) _ (sym (mark_severe P j i) ∙ shows 1 m) in
       let m-is = tier P t c j.named i code in
-      let above = ltb-true _ _ (above_six P t c j.named i code) in
+      let above = ltb-true _ _ (above_multiple P t c j.named i code) in
       record {
         sides = ap (λ (x : Reason). x.values) (a.is ∙ severe-reason _ _ _ _ _ i m) ∙ rw m-is refl;
         above = rw m-is above;
@@ -142,7 +142,7 @@ module _ (S B C : List ℕ) (day : ℕ) (code G : List ℕ) {s : Reason} (a : An
         record {
           a = w.a;
           b = w.b;
-          are = shown_by (record { first = Some w.a; second = Some w.b }) (rw (w.last_is.is, w.first_is.is) refl);
+          codes = shown_by (record { first = Some w.a; second = Some w.b }) (rw (w.last_is.is, w.first_is.is) refl);
           first = line_is w.a w.first_is.holds;
           second = line_is w.b w.last_is.holds;
           earlier = w.first_is.inside;
@@ -155,7 +155,7 @@ module _ (S B C : List ℕ) (day : ℕ) (code G : List ℕ) {s : Reason} (a : An
         let w = one_before places q i all (taken_at_all m ∙ h) in
         record {
           a = w.a;
-          are = shown_by (record { first = Some w.a; second = None }) (rw (w.last_is.is, w.none_before) refl);
+          codes = shown_by (record { first = Some w.a; second = None }) (rw (w.last_is.is, w.none_before) refl);
           first = line_is w.a w.last_is.holds;
           before = w.before;
           no_other = λ k l t. w.only k l (is_line k t);
@@ -165,7 +165,7 @@ module _ (S B C : List ℕ) (day : ℕ) (code G : List ℕ) {s : Reason} (a : An
     none_taken h =
         let zero : count places q ≡ 0 = taken_at_all m ∙ h in
         record {
-          are = shown_by (record { first = None; second = None }) (rw (none_last places q zero) refl);
+          codes = shown_by (record { first = None; second = None }) (rw (none_last places q zero) refl);
           no_other = λ k l t. none_counted places q zero k l (is_line k t);
         }
 

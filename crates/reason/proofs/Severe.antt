@@ -32,5 +32,5 @@ module _ (P : Rules) (s : Terms) (c : DailyTotals) (named : (i : ℕ) → Bool) 
     tier =
         rw (severe_cell e) (factor P B 1 (c (group_of i) (day_of i)) ∙ rw (first_so (ltb (P.edge1 * 1) (c (group_of i) (day_of i)).raw) _ tests) refl)
 
-    pub above_six : exceeds P (P.severe * B) 1 (c (group_of i) (day_of i)) ≡ true
-    above_six = second_so (exceeds P B 1 (c (group_of i) (day_of i))) _ (second_so (ltb (P.edge1 * 1) (c (group_of i) (day_of i)).raw) _ tests)
+    pub above_multiple : exceeds P (P.severe * B) 1 (c (group_of i) (day_of i)) ≡ true
+    above_multiple = second_so (exceeds P B 1 (c (group_of i) (day_of i))) _ (second_so (ltb (P.edge1 * 1) (c (group_of i) (day_of i)).raw) _ tests)

@@ -13,7 +13,7 @@ module _ (n own : ℕ) (is_waiver : (k : ℕ) → Type 0) (named : (k : ℕ) →
   pub record TwoTaken : Type 0 where
     pub a : ℕ
     pub b : ℕ
-    pub are : shown ≡ named a ++ named b
+    pub codes : shown ≡ named a ++ named b
     pub first : is_waiver a
     pub second : is_waiver b
     pub earlier : a < b
@@ -23,14 +23,14 @@ module _ (n own : ℕ) (is_waiver : (k : ℕ) → Type 0) (named : (k : ℕ) →
   -- 2.9, where one waiver was taken: zeros stand after the one there is
   pub record OneTaken : Type 0 where
     pub a : ℕ
-    pub are : shown ≡ named a ++ missing
+    pub codes : shown ≡ named a ++ missing
     pub first : is_waiver a
     pub before : a < own
     pub no_other : (k : ℕ) → k < n → is_waiver k → k ≡ a
 
   -- 2.9, where none was taken
   pub record NoneTaken : Type 0 where
-    pub are : shown ≡ missing ++ missing
+    pub codes : shown ≡ missing ++ missing
     pub no_other : (k : ℕ) → k < n → is_waiver k → ⊥
 
   -- by w, the automatic waivers that the constants give: before a billed day all of them were taken

@@ -14,7 +14,7 @@ use Rattle.wire.specs.Choose.{choose, within}
 use Rattle.std.specs.Cmp.{first_so, second_so}
 use Rattle.wire.proofs.Bools.{range, in_range as is-within}
 use Rattle.wire.proofs.Choose.{here, next, done, chosen, none_at, choose_most, every}
-use Rattle.records.specs.Bodies.{length_at, kind_at, rest_at, body_at, head_size, constants_size, least_group, largest_group, group_kind, firm_size}
+use Rattle.records.specs.Bodies.{length_at, kind_at, rest_at, body_at, head_kind, constants_kind, head_size, constants_size, least_group, largest_group, group_kind, firm_size}
 use Rattle.rules.specs.Constants.{in_range, in_order, is_lawful}
 use Rattle.rules.proofs.Laws.{lawful_sets}
 use Rattle.records.specs.Fields.{head_fields, head_ok, constants_fields, group_fields, group_in_range, firm_fields, has_code}
@@ -102,7 +102,7 @@ once_more n p once new i j hi hj ei ej = by (eqb i n) (eqb j n) refl refl
 
 -- what the head holds that was read: the month m and the closed days c
 record Headed (S : List ℕ) (m c : ℕ) : Type 0 where
-  kind : kind_at S 0 ≡ 1
+  kind : kind_at S 0 ≡ head_kind
   size : length_at S 0 ≡ head_size
   month : m ≡ (head_fields (body_at S 0)).month
   closed : c ≡ (head_fields (body_at S 0)).closed
@@ -244,7 +244,7 @@ in_force_at S at f number bare least s = by (eqb at head_size) refl
     by : (b : Bool) → eqb at head_size ≡ b → InForce S f
     by true e =
         let q = eqb-true at head_size e in
-        constants_of_96 S f (ne_eqb _ _ (λ h. let two : 2 ≡ 6 = sym (rw q at number) ∙ h in omega arith)) (bare q)
+        constants_of_96 S f (ne_eqb _ _ (λ h. let same : group_kind ≡ constants_kind = sym (rw q at number) ∙ h in omega arith)) (bare q)
     by false e = s (omega (arith, eqb-false at head_size e, least))
 
 module _ (S : List ℕ) (p : Cursor) where

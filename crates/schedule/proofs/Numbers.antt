@@ -8,30 +8,30 @@ use borrow.Author.Tests.{eqb-true}
 use Rattle.wire.specs.Choose.{choose, within}
 use Rattle.std.specs.Cmp.{first_so}
 use Rattle.wire.proofs.Bools.{range}
-use Rattle.records.specs.Bodies.{least_group, largest_group, head_size, constants_size, firm_size}
+use Rattle.records.specs.Bodies.{head_kind, constants_kind, group_kind, firm_kind, least_group, largest_group, head_size, constants_size, firm_size}
 use Rattle.schedule.specs.Check.{kind_of, length_ok}
 use Rattle.schedule.specs.declared.scan.Kind.{Kind}
 use Rattle.schedule.specs.declared.scan.Kind.TheVariants as kind
 
 -- the number of a kind; any other kind has none
 abbrev pub HasNumber : Kind → ℕ → Type 0
-HasNumber kind.Head n = n ≡ 1
-HasNumber kind.Constants n = n ≡ 6
-HasNumber kind.Group n = n ≡ 2
-HasNumber kind.Firm n = n ≡ 3
+HasNumber kind.Head n = n ≡ head_kind
+HasNumber kind.Constants n = n ≡ constants_kind
+HasNumber kind.Group n = n ≡ group_kind
+HasNumber kind.Firm n = n ≡ firm_kind
 HasNumber kind.Other n = Unit {0}
 
 pub kind_number : (n : ℕ) → HasNumber (kind_of n) n
 unfolding kind_of choose
-kind_number n = by (eqb n 1) (eqb n 6) (eqb n 2) (eqb n 3) refl refl refl refl
+kind_number n = by (eqb n head_kind) (eqb n constants_kind) (eqb n group_kind) (eqb n firm_kind) refl refl refl refl
   where
-    by : (a d b c : Bool) → eqb n 1 ≡ a → eqb n 6 ≡ d → eqb n 2 ≡ b → eqb n 3 ≡ c
-        → HasNumber (cond a kind.Head (cond d kind.Constants (cond b kind.Group (cond c kind.Firm kind.Other)))) n
-    by true d b c p s q r = eqb-true n 1 p
-    by false true b c p s q r = eqb-true n 6 s
-    by false false true c p s q r = eqb-true n 2 q
-    by false false false true p s q r = eqb-true n 3 r
-    by false false false false p s q r = tt
+    by : (a b c d : Bool) → eqb n head_kind ≡ a → eqb n constants_kind ≡ b → eqb n group_kind ≡ c → eqb n firm_kind ≡ d
+        → HasNumber (cond a kind.Head (cond b kind.Constants (cond c kind.Group (cond d kind.Firm kind.Other)))) n
+    by true b c d p q r s = eqb-true n head_kind p
+    by false true c d p q r s = eqb-true n constants_kind q
+    by false false true d p q r s = eqb-true n group_kind r
+    by false false false true p q r s = eqb-true n firm_kind s
+    by false false false false p q r s = tt
 
 -- a record's length says 7 to 144
 pub length_bounds : (k : Kind) (len : ℕ) → length_ok k len ≡ true → (firm_size ≤ len) × (len ≤ largest_group)
