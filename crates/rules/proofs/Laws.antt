@@ -12,13 +12,14 @@ use Rattle.wire.proofs.Implies.{follows}
 use Rattle.rules.specs.Verdict.{version96, verdict, is_refused, decided, refusal, days_verdict, number_of, panel_number}
 use Rattle.std.specs.Cmp.{first_so, second_so}
 use Rattle.rules.specs.Constants.{in_range, in_order, is_lawful, Falling, clamped}
+use Rattle.rules.specs.Lighter.{no_day_off}
 use Rattle.rules.specs.Laws.{Laws, LawfulSets, read_back, Panel}
 use Rattle.rules.specs.declared.Rules.{Rules}
 use Rattle.rules.specs.declared.Totals.{Totals}
 use Rattle.rules.proofs.Codes.{fails, severe, factor, violation_falls, severe_falls, never_24, pair}
 use Rattle.rules.proofs.Marks.{frees_none}
 use Rattle.rules.proofs.Bills.{adds_up, dollars}
-use Rattle.rules.proofs.Lighter.{eased, exempt_stays, amount_lighter}
+use Rattle.rules.proofs.Lighter.{eased, exempt_stays, amount_lighter, none_off}
 
 pub laws : (P : Rules) → Falling P → Laws P
 laws P F =
@@ -28,8 +29,10 @@ laws P F =
       factor = factor P;
       lighter_code =
           λ B d t' t h. record { violation = follows (violation_falls P F (eased h) B); severe = follows (severe_falls P F (eased h) B) };
-      lighter_exempt = λ s c' c h g hg. follows (exempt_stays P F s c' c h g hg);
-      lighter_amount = λ s c' c named h. amount_lighter P F s c' c h named;
+      lighter_exempt = λ s c' c h g hg. follows (exempt_stays P F s no_day_off c' c (none_off h) g hg);
+      lighter_amount = λ s c' c named h. amount_lighter P F s no_day_off c' c (none_off h) named;
+      off_exempt = λ s off c' c h g hg. follows (exempt_stays P F s off c' c h g hg);
+      off_amount = λ s off c' c named h. amount_lighter P F s off c' c h named;
       frees_none = frees_none P;
       adds_up = adds_up P;
       dollars = dollars P;

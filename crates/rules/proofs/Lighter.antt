@@ -1,55 +1,110 @@
--- A lighter month has the same counted days, so its days and its sums are eased and an exempt group stays exempt.
--- So no place gets worse, and no amount rises.
-use Prim.Native.Nat.{ℕ, ◌+◌, ◌≤◌, ◌<◌}
-use mathlib.Core.Bool.{Bool, true, false, cond, not, ◌&&◌, ◌||◌}
-use mathlib.Core.Path.{◌≡◌, refl, sym}
-use native.Mathlib.Nat.{le_refl, mul-le-mul_left}
+-- A day taken off had at least the group's average, so the average of the days that are left is no larger, and keeps to every edge; other days count as
+-- before. So the days and the sums are eased, and an exempt group stays exempt. A silent day is no violation; so no place gets worse, and no amount rises.
+use Prim.Native.Nat.{ℕ, zero, suc, ◌+◌, ◌*◌, ◌≤◌, ◌<◌, zero-le}
+use mathlib.Core.Bool.{Bool, true, false, cond, not, ◌&&◌, ◌||◌, false≢true}
+use mathlib.Core.Path.{◌≡◌, refl, ◌∙◌}
+use native.Mathlib.Nat.{le_refl, mul-le-mul_left, mul-le-mul_right, mul_comm, mul_right_comm, mul-add, mul-suc}
 use native.Mathlib.Omega.{arith}
-use lib.Dec.{ltb, eqb}
-use borrow.Author.Tests.{ltb-true, ltb-false, lt-ltb, le-ltb}
-use Rattle.wire.specs.Sums.{bit}
+use lib.Dec.{leb, ltb, eqb}
+use borrow.Author.Tests.{leb-true, leb-false, ltb-true, ltb-false, lt-ltb, le-ltb}
+use Rattle.wire.specs.Sums.{bit, sum}
 use Rattle.std.specs.Cmp.{first_so, second_so}
-use Rattle.wire.proofs.Bools.{cond_where}
 use Rattle.wire.proofs.Implies.{◌⇒◌, not-⇒, and-⇒, leb-⇒}
 use Rattle.wire.proofs.Sums.{sum_le}
-use Rattle.rules.specs.Verdict.{not_judged, is_violation, is_severe}
+use Rattle.rules.specs.Verdict.{not_judged, verdict, is_violation, is_severe}
 use Rattle.rules.specs.Constants.{Falling}
-use Rattle.rules.specs.Month.{Terms, DailyTotals, counted, over_counted, days, sums, exempt}
+use Rattle.rules.specs.Month.{Terms, DailyTotals, counted, days, sums, exempt}
 use Rattle.rules.specs.Marks.{day_of, group_of, judged, amount}
-use Rattle.rules.specs.Lighter.{Lighter, LighterMonth, NoSevereNamed}
+use Rattle.rules.specs.Lighter.{Lighter, LighterCell, LighterMonth, LighterButOff, no_day_off, NoSevereNamed}
 use Rattle.rules.specs.declared.Rules.{Rules}
 use Rattle.rules.specs.declared.Totals.{Totals}
 use Rattle.rules.specs.declared.Verdict.{Verdict}
-use Rattle.rules.proofs.Codes.{Eased, exempt_code, violation_falls, severe_falls}
+use Rattle.rules.proofs.Codes.{severe as severe_code, Eased, fails, exempt_code, violation_falls, severe_falls}
 use Rattle.rules.proofs.Marks.{Kind, none, ordinary, severe, kind}
 use Rattle.rules.proofs.Bills.{Milder, amount_falls}
 
 pub eased : {t' t : Totals} {d : ℕ} → Lighter t' t → Eased d t' d t
 eased h = record { edges = λ e. leb-⇒ h.raw (le_refl _); score = h.score; lots = h.lots }
 
--- where the same days count, a sum over them rises with what is summed
-over_le : (s : Terms) (g : ℕ) (c₁ c₂ : DailyTotals) → ((k : ℕ) → counted s c₁ g k ≡ counted s c₂ g k)
-    → (f : Totals → ℕ) → ((k : ℕ) → s.in_effect k ≡ true → f (c₁ g k) ≤ f (c₂ g k)) → over_counted s c₁ 31 g f ≤ over_counted s c₂ 31 g f
-over_le s g c₁ c₂ same f h =
-    sum_le 31 _ _ (λ i l. rw (same (i + 1)) (cond_where (counted s c₂ g (i + 1)) (λ q. h (i + 1) (first_so (s.in_effect (i + 1)) _ q))))
+-- how a group's day enters the sums of two months: whether it counts (n' against n), and its totals (t' against t); where it counts no longer, it had at least
+-- the average of R over d days
+record Entered (d R : ℕ) (n' : Bool) (t' : Totals) (n : Bool) (t : Totals) : Type 0 where
+  raw : cond n' t'.raw 0 ≤ cond n t.raw 0
+  score : cond n' t'.score 0 ≤ cond n t.score 0
+  lots : cond n t.lots 0 ≤ cond n' t'.lots 0
+  average : d * cond n' t'.raw 0 + R * cond n 1 0 ≤ d * cond n t.raw 0 + R * cond n' 1 0
 
-module _ (s : Terms) (c' c : DailyTotals) (h : LighterMonth s c' c) (g : ℕ) (hg : g < s.groups) where
-  pub same_days : (k : ℕ) → counted s c' g k ≡ counted s c g k
-  same_days k = go (s.in_effect k) (ltb 0 (c g k).raw) refl refl
+-- what holds of d times one and R times another number of each day holds of their sums
+weighted : (k d R : ℕ) (r' r m' m : ℕ → ℕ) → ((i : ℕ) → i < k → d * r' i + R * m i ≤ d * r i + R * m' i)
+    → d * sum k r' + R * sum k m ≤ d * sum k r + R * sum k m'
+unfolding sum
+weighted zero d R r' r m' m h = le_refl _
+weighted (suc k) d R r' r m' m h =
+    rw (mul-add d (sum k r') (r' k), mul-add R (sum k m) (m k), mul-add d (sum k r) (r k), mul-add R (sum k m') (m' k))
+    (omega (arith, weighted k d R r' r m' m (λ i l. h i (omega arith)), h k (le_refl _)))
+
+-- where the average does not rise, every edge that was kept to is still kept to: else d × (e × d' + 1) ≤ d × R' ≤ R × d' ≤ e × d × d', so that no day counted
+-- and there were no messages
+edge-⇒ : (e d' R' d R : ℕ) → d * R' ≤ R * d' → R' ≤ R → leb R (e * d) ⇒ leb R' (e * d')
+edge-⇒ e d' R' d R falls fewer = go (leb R (e * d)) (leb R' (e * d')) refl refl
+  where
+    go : (x y : Bool) → leb R (e * d) ≡ x → leb R' (e * d') ≡ y → x ⇒ y
+    go false y p q = omega arith
+    go true true p q = omega arith
+    go true false p q =
+        let most = mul-le-mul_right d' (leb-true R (e * d) p) in
+        let more = mul-le-mul_left d (leb-false R' (e * d') q) in
+        let none : d ≤ 0 = omega (arith, most, more, falls, mul-suc d (e * d'), mul_right_comm e d d', mul_comm (e * d') d) in
+        omega (arith, mul-le-mul_left e none, fewer, leb-true R (e * d) p, leb-false R' (e * d') q)
+
+-- a day taken off
+off_entered : {d R : ℕ} {t' t : Totals} → ltb 0 t.raw ≡ true → t'.raw ≡ 0 → t.lots ≡ 0 → R ≤ t.raw * d → Entered d R (ltb 0 t'.raw) t' (ltb 0 t.raw) t
+off_entered {d} {R} {t'} {t} counts silent lotless average =
+    rw (counts, silent)
+    record { raw = zero-le; score = zero-le; lots = omega (arith, lotless); average = omega (arith, average, mul_comm t.raw d) }
+
+-- and one that counts in both months or in neither
+both_entered : {d R : ℕ} {t' t : Totals} → (n : Bool) → Lighter t' t → Entered d R n t' n t
+both_entered {d} true h =
+    record { raw = h.raw; score = h.score; lots = h.lots; average = omega (arith, mul-le-mul_left d h.raw) }
+both_entered false h = record { raw = le_refl 0; score = le_refl 0; lots = le_refl 0; average = le_refl _ }
+
+-- messages stay, and none come
+same_counted : {t' t : Totals} → LighterCell t' t → ltb 0 t'.raw ≡ ltb 0 t.raw
+same_counted {t'} {t} h = go (ltb 0 t.raw) refl
+  where
+    go : (x : Bool) → ltb 0 t.raw ≡ x → ltb 0 t'.raw ≡ x
+    go true q = lt-ltb 0 t'.raw (omega (arith, h.kept (ltb-true 0 t.raw q)))
+    go false q = le-ltb 0 t'.raw (omega (arith, ltb-false 0 t.raw q, h.lighter.raw))
+
+module _ (s : Terms) (off : (g day : ℕ) → Bool) (c' c : DailyTotals) (h : LighterButOff s off c' c) (g : ℕ) (hg : g < s.groups) where
+  entered : (k : ℕ) → Entered (days s c g) (sums s c g).raw (counted s c' g k) (c' g k) (counted s c g k) (c g k)
+  entered k = go (s.in_effect k) (off g k) refl refl
     where
-      go : (x y : Bool) → s.in_effect k ≡ x → ltb 0 (c g k).raw ≡ y → (x && ltb 0 (c' g k).raw) ≡ (x && y)
-      go false y p q = refl
-      go true true p q = lt-ltb 0 _ (h.kept g k hg p (ltb-true 0 _ q))
-      go true false p q = le-ltb 0 (c' g k).raw (omega (arith, ltb-false 0 (c g k).raw q, (h.lighter g k hg p).raw))
+      go : (x y : Bool) → s.in_effect k ≡ x → off g k ≡ y
+          → Entered (days s c g) (sums s c g).raw (x && ltb 0 (c' g k).raw) (c' g k) (x && ltb 0 (c g k).raw) (c g k)
+      go false y p q = record { raw = le_refl 0; score = le_refl 0; lots = le_refl 0; average = le_refl _ }
+      go true true p q =
+          let o = h.days_off g k hg p q in
+          off_entered (second_so (s.in_effect k) _ o.counts) o.silent (omega (arith, o.no_lots)) (omega (arith, leb-true _ _ o.average))
+      go true false p q = let l = h.others g k hg p q in rw (same_counted l) (both_entered (ltb 0 (c g k).raw) l.lighter)
 
-  pub sums-eased : Eased (days s c' g) (sums s c' g) (days s c g) (sums s c g)
+  fewer : (sums s c' g).raw ≤ (sums s c g).raw
+  fewer = sum_le 31 _ _ (λ i l. (entered (i + 1)).raw)
+
+  average_falls : days s c g * (sums s c' g).raw ≤ (sums s c g).raw * days s c' g
+  average_falls =
+      let sides : days s c g * (sums s c' g).raw + (sums s c g).raw * days s c g ≤ days s c g * (sums s c g).raw + (sums s c g).raw * days s c' g
+      = weighted 31 (days s c g) (sums s c g).raw _ (λ i. cond (counted s c g (i + 1)) (c g (i + 1)).raw 0)
+      (λ i. cond (counted s c' g (i + 1)) 1 0) (λ i. cond (counted s c g (i + 1)) 1 0) (λ i l. (entered (i + 1)).average) in
+      omega (arith, sides, mul_comm (days s c g) (sums s c g).raw)
+
+  sums-eased : Eased (days s c' g) (sums s c' g) (days s c g) (sums s c g)
   sums-eased =
-      let falls = over_le s g c' c same_days in
-      let rises = over_le s g c c' (λ k. sym (same_days k)) in
       record {
-        edges = λ e. leb-⇒ (falls (λ t. t.raw) (λ k q. (h.lighter g k hg q).raw)) (mul-le-mul_left e (rises (λ t. 1) (λ k q. le_refl 1)));
-        score = falls (λ t. t.score) (λ k q. (h.lighter g k hg q).score);
-        lots = rises (λ t. t.lots) (λ k q. (h.lighter g k hg q).lots);
+        edges = λ e. edge-⇒ e (days s c' g) (sums s c' g).raw (days s c g) (sums s c g).raw average_falls fewer;
+        score = sum_le 31 _ _ (λ i l. (entered (i + 1)).score);
+        lots = sum_le 31 _ _ (λ i l. (entered (i + 1)).lots);
       }
 
 -- a place is no worse, where it is listed and in effect: its verdict v' against v, its group exempt (x' against x)
@@ -79,21 +134,45 @@ placed true true v' x' v x h =
       both = rw (either (kind v'.code) x', either (kind v.code) x) (and-⇒ p.violation (not-⇒ (and-⇒ (not-⇒ p.severe) p.stays))).le;
     }
 
-module _ (P : Rules) (F : Falling P) (s : Terms) (c' c : DailyTotals) (h : LighterMonth s c' c) where
-  pub exempt_stays : (g : ℕ) → g < s.groups → exempt P s c g ⇒ exempt P s c' g
-  exempt_stays g hg =
-      rw (exempt_code P (s.benchmark g) (days s c g) (sums s c g), exempt_code P (s.benchmark g) (days s c' g) (sums s c' g))
-      (not-⇒ (violation_falls P F (sums-eased s c' c h g hg) (s.benchmark g)))
+module _ (P : Rules) (F : Falling P) where
+  -- a day taken off fails no longer
+  silent_passes : (B : ℕ) (t : Totals) → t.raw ≡ 0 → is_violation (verdict P B 1 t).code ≡ false
+  silent_passes B t z = fails P B 1 t ∙ rw (z, le-ltb (P.edge1 * 1) 0 zero-le) refl
 
-  pub amount_lighter : (named : (i : ℕ) → Bool) → NoSevereNamed (judged P s c named) → (e : ℕ)
-      → amount P (judged P s c' named) e ≤ amount P (judged P s c named) e
-  amount_lighter named spared e =
-      amount_falls P e (judged P s c' named) (judged P s c named) (λ i. refl) spared
-      (λ i. placed (eqb (s.grouping (group_of i)) e) (ltb (group_of i) s.groups && s.in_effect (day_of i)) _ _ _ _
-      (λ q. let hg = ltb-true _ _ (first_so (ltb (group_of i) s.groups) _ q) in
-      let l = h.lighter (group_of i) (day_of i) hg (second_so (ltb (group_of i) s.groups) _ q) in
-      record {
-        violation = violation_falls P F (eased l) _;
-        severe = severe_falls P F (eased l) _;
-        stays = exempt_stays (group_of i) hg;
-      }))
+  silent_mild : (B : ℕ) (t : Totals) → t.raw ≡ 0 → is_severe (verdict P B 1 t).code ≡ false
+  silent_mild B t z = severe_code P B 1 t ∙ rw (z, le-ltb (P.edge1 * 1) 0 zero-le) refl
+
+  module _ (s : Terms) (off : (g day : ℕ) → Bool) (c' c : DailyTotals) (h : LighterButOff s off c' c) where
+    pub exempt_stays : (g : ℕ) → g < s.groups → exempt P s c g ⇒ exempt P s c' g
+    exempt_stays g hg =
+        rw (exempt_code P (s.benchmark g) (days s c g) (sums s c g), exempt_code P (s.benchmark g) (days s c' g) (sums s c' g))
+        (not-⇒ (violation_falls P F (sums-eased s off c' c h g hg) (s.benchmark g)))
+
+    place : (g day : ℕ) → g < s.groups → s.in_effect day ≡ true
+        → Place (verdict P (s.benchmark g) 1 (c' g day)) (exempt P s c' g) (verdict P (s.benchmark g) 1 (c g day)) (exempt P s c g)
+    place g day hg p = go (off g day) refl
+      where
+        go : (x : Bool) → off g day ≡ x
+            → Place (verdict P (s.benchmark g) 1 (c' g day)) (exempt P s c' g) (verdict P (s.benchmark g) 1 (c g day)) (exempt P s c g)
+        go true q =
+            let z = (h.days_off g day hg p q).silent in
+            record {
+              violation = rw (silent_passes (s.benchmark g) (c' g day) z) (omega arith);
+              severe = rw (silent_mild (s.benchmark g) (c' g day) z) (omega arith);
+              stays = exempt_stays g hg;
+            }
+        go false q =
+            let l = (h.others g day hg p q).lighter in
+            record { violation = violation_falls P F (eased l) _; severe = severe_falls P F (eased l) _; stays = exempt_stays g hg }
+
+    pub amount_lighter : (named : (i : ℕ) → Bool) → NoSevereNamed (judged P s c named) → (e : ℕ)
+        → amount P (judged P s c' named) e ≤ amount P (judged P s c named) e
+    amount_lighter named spared e =
+        amount_falls P e (judged P s c' named) (judged P s c named) (λ i. refl) spared
+        (λ i. placed (eqb (s.grouping (group_of i)) e) (ltb (group_of i) s.groups && s.in_effect (day_of i)) _ _ _ _
+        (λ q.
+        place (group_of i) (day_of i) (ltb-true _ _ (first_so (ltb (group_of i) s.groups) _ q)) (second_so (ltb (group_of i) s.groups) _ q)))
+
+-- demand 3 takes no day off
+pub none_off : {s : Terms} {c' c : DailyTotals} → LighterMonth s c' c → LighterButOff s no_day_off c' c
+none_off h = record { days_off = λ g day hg p q. absurd (false≢true q); others = λ g day hg p q. h g day hg p }

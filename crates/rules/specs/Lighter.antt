@@ -1,8 +1,8 @@
--- Lighter traffic: fewer messages, more lots; and grants that name no severe place: premises of demand 3.
+-- Lighter traffic: fewer messages, more lots; days off; and grants that name no severe place: premises of demand 3, and of document 02, 2.10.
 -- Assumes nothing.
-use Rattle.std.specs.Prelude.{ℕ, ◌≤◌, ◌<◌, true, false, ◌≡◌}
+use Rattle.std.specs.Prelude.{ℕ, ◌≤◌, ◌<◌, Bool, true, false, ◌≡◌, eqb}
 use Rattle.rules.specs.Verdict.{is_severe}
-use Rattle.rules.specs.Month.{Terms, DailyTotals}
+use Rattle.rules.specs.Month.{Terms, DailyTotals, counted, days, sums, at_least_average}
 use Rattle.rules.specs.Marks.{places, Judged}
 use Rattle.rules.specs.declared.Totals.{Totals}
 
@@ -12,10 +12,35 @@ pub record Lighter (t' t : Totals) : Type 0 where
   pub score : t'.score ≤ t.score
   pub lots : t.lots ≤ t'.lots
 
--- so on each day in effect and in each group, and no raw count above zero becomes zero
-pub record LighterMonth (s : Terms) (c' c : DailyTotals) : Type 0 where
-  pub lighter : (g day : ℕ) → g < s.groups → s.in_effect day ≡ true → Lighter (c' g day) (c g day)
-  pub kept : (g day : ℕ) → g < s.groups → s.in_effect day ≡ true → 0 < (c g day).raw → 0 < (c' g day).raw
+-- a cell falls: it is lighter in t' than in t, and its raw count, if above zero, does not become zero
+pub record LighterCell (t' t : Totals) : Type 0 where
+  pub lighter : Lighter t' t
+  pub kept : 0 < t.raw → 0 < t'.raw
+
+-- so on each day in effect and in each group
+abbrev pub LighterMonth : (s : Terms) → (c' c : DailyTotals) → Type 0
+LighterMonth s c' c = (g day : ℕ) → g < s.groups → s.in_effect day ≡ true → LighterCell (c' g day) (c g day)
+
+-- 2.10: a counted day of the first month c falls to no messages in the second, c'; on that day the first has no lots, and a raw count that is at least the
+-- group's monthly average R / d there
+pub record DayOff (s : Terms) (c' c : DailyTotals) (g day : ℕ) : Type 0 where
+  pub counts : counted s c g day ≡ true
+  pub silent : (c' g day).raw ≡ 0
+  pub no_lots : (c g day).lots ≡ 0
+  pub average : at_least_average (c g day).raw (days s c g) (sums s c g).raw ≡ true
+
+-- 2.10: days are taken off, any number of them in each group; other cells fall as before
+pub record LighterButOff (s : Terms) (off : (g day : ℕ) → Bool) (c' c : DailyTotals) : Type 0 where
+  pub days_off : (g day : ℕ) → g < s.groups → s.in_effect day ≡ true → off g day ≡ true → DayOff s c' c g day
+  pub others : (g day : ℕ) → g < s.groups → s.in_effect day ≡ true → off g day ≡ false → LighterCell (c' g day) (c g day)
+
+-- none
+abbrev pub no_day_off : (g day : ℕ) → Bool
+no_day_off g day = false
+
+-- 2.10: in each group one day; a group whose day is 0 takes none off
+abbrev pub one_day_off : (off : (g : ℕ) → ℕ) → (g day : ℕ) → Bool
+one_day_off off g day = eqb (off g) day
 
 -- 2.6: no grant names one of the firm's days that is severe
 abbrev pub NoSevereNamed : Judged → Type 0

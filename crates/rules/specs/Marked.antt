@@ -1,16 +1,31 @@
 -- The eleven marked days and the month (document 01, "Eleven marked days, a month and one whole run"), each against B = 1,000; with each day's factor
--- and the panel's number (document 02, 2.1).
+-- and the panel's number (document 02, 2.1); and months day by day, each of them without the days that a team takes off (2.10).
 -- Assumes nothing.
-use Rattle.std.specs.Prelude.{ℕ, ◌+◌, ◌*◌, Bool, true, List, [], ◌∷◌, map, ◌≡◌, refl, eqb}
-use Rattle.wire.specs.Choose.{choose, all}
+use Rattle.std.specs.Prelude.{ℕ, ◌+◌, ◌*◌, ◌-◌, Bool, true, List, [], ◌∷◌, ◌++◌, map, ◌≡◌, refl, eqb, get_or}
+use Rattle.wire.specs.Choose.{choose, all, within}
+use Rattle.wire.specs.Lists.{joined, table}
+use Rattle.wire.specs.Sums.{sum}
 use Rattle.rules.specs.Verdict.{version96, verdict, panel_number}
-use Rattle.rules.specs.Month.{is_exempt}
+use Rattle.rules.specs.Month.{Terms, is_exempt}
+use Rattle.rules.specs.Marks.{Judged, no_grants, judged, marked, billed, amount}
 use Rattle.rules.specs.declared.Totals.{Totals}
 
 -- a day and the code and factor that are right for it, or an exempt month: d, R, S and V
 pub data Case : Type 0 where
   day : (raw score lots code m : ℕ) → Case
   month : (d raw score lots : ℕ) → Case
+  bill : (days : List Totals) → (monthly automatic billed dollars : ℕ) → Case
+
+-- a month of one group of the first exchange grouping, every day in effect, from its days' totals
+abbrev terms : Terms
+terms = record { groups = 1; in_effect = within 1 31; benchmark = λ g. 1000; grouping = λ g. 1 }
+
+abbrev month_of : List Totals → Judged
+month_of ts = judged version96 terms (λ g day. get_or ts (day - 1) (record { raw = 0; score = 0; lots = 0 })) no_grants
+
+-- so many days that are alike
+abbrev alike : (n raw score lots : ℕ) → List Totals
+alike n raw score lots = table n (λ i. record { raw = raw; score = score; lots = lots })
 
 abbrev pub right : Case → Bool
 right (day raw score lots n m) =
@@ -18,6 +33,10 @@ right (day raw score lots n m) =
     let v = verdict version96 1000 1 t in
     all (eqb v.code n ∷ eqb v.factor m ∷ eqb (panel_number t 1000) (10 * n + m) ∷ [])
 right (month d raw score lots) = is_exempt version96 1000 d (record { raw = raw; score = score; lots = lots })
+right (bill ts monthly automatic bills dollars) =
+    let P = version96 in
+    let j = month_of ts in
+    all (eqb (marked P j 1 3) monthly ∷ eqb (marked P j 1 4) automatic ∷ eqb (billed P j 1) bills ∷ eqb (amount P j 1) dollars ∷ [])
 
 abbrev pub cases : List Case
 cases =
@@ -33,8 +52,19 @@ cases =
     ∷ day 40000 30000 1000 3 3
     ∷ day 40001 30000 1000 4 2
     ∷ month 20 1570000 1210000 405000
+    -- 2.10: a day below the average: without day 5 the month's average is above the third edge
+    ∷ bill (alike 4 60001 20000 1000 ++ alike 1 1 0 0) 4 0 0 0
+    ∷ bill (alike 4 60001 20000 1000) 0 2 2 2000
+    -- a day of the average, with lots: they are in the month's sum no more
+    ∷ bill (alike 3 60001 20000 1000 ++ alike 1 60001 0 1000000) 3 0 0 0
+    ∷ bill (alike 3 60001 20000 1000) 0 2 1 1000
+    -- two days of the average without its fraction
+    ∷ bill (alike 3 40000 40000 1000 ++ alike 2 40000 20000 1000 ++ alike 1 40001 20000 1000 ++ alike 2 39999 0 0) 3 0 0 0
+    ∷ bill (alike 3 40000 40000 1000 ++ alike 2 40000 20000 1000 ++ alike 1 40001 20000 1000) 0 2 1 1000
+    -- a day of the average and without lots may be taken off: it costs no more
+    ∷ bill (alike 4 60001 20000 1000 ++ alike 1 60001 20000 0) 0 2 3 3000
     ∷ []
 
 pub all_right : all (map right cases) ≡ true
-unfolding all choose verdict panel_number
+unfolding all choose joined sum verdict panel_number
 all_right = refl

@@ -1,4 +1,4 @@
--- A firm's month: its counted days, their sums, and the monthly exemption (document 01, "The month", and document 02, 2.9; the Program, section 10).
+-- A firm's month: its counted days, their sums, and the monthly exemption (document 01, "The month", and document 02, 2.9 and 2.10; the Program, section 10).
 -- Assumes nothing.
 use Rattle.std.specs.Prelude.{ℕ, ◌+◌, ◌*◌, Bool, cond, not, ◌&&◌, ◌||◌, leb, ltb}
 use Rattle.wire.specs.Sums.{sum}
@@ -39,6 +39,10 @@ module _ (s : Terms) (c : DailyTotals) where
         score = over_counted 31 g (λ t. t.score);
         lots = over_counted 31 g (λ t. t.lots);
       }
+
+-- 2.10: a raw count is at least the average R / d of d days with R messages together: raw × d ≥ R
+abbrev pub at_least_average : (raw d R : ℕ) → Bool
+at_least_average raw d R = leb R (raw * d)
 
 -- The month: exempt when R ≤ 20,000 × d (2.9: the first edge × d), or when 100 × S ≤ B × m × V, of d counted days with the sums t
 abbrev pub is_exempt : Rules → (B d : ℕ) → Totals → Bool
