@@ -22,6 +22,8 @@ use Rattle.calendar.specs.Calendar.{days_in}
 use Rattle.rules.specs.Verdict.{is_violation}
 use Rattle.rules.specs.Month.{DailyTotals}
 use Rattle.rules.specs.Marks.{places, day_of, group_of, Judged, is_billed, granted_mark, mark_without_grants, mark, violations, marked, billed, amount}
+use Rattle.rules.specs.Lighter.{no_day_off, one_day_off}
+use Rattle.rules.proofs.Lighter.{none_off}
 use Rattle.rules.proofs.Bills.{none_granted, adds_up, dollars}
 use Rattle.rules.specs.declared.Rules.{Rules}
 use native.Mathlib.Nat.{mul-le-mul}
@@ -51,8 +53,9 @@ use Rattle.statement.specs.Lines.{totals_bytes, lines, having, tally, shown}
 use Rattle.statement.specs.Statement.{statement_bytes, need, statement_answer, statement_output}
 use Rattle.statement.proofs.Answers.{is-refused}
 use Rattle.statement.proofs.Shown.{lines_length, mark_some, marks-count, bytes-length}
-use Rattle.guarantee.specs.Demand3.{layout, is_listed, totals_after, month_after, amount_after, Run, answer_of, output_of, month, amount_of, GrantsTaken, Falls}
+use Rattle.guarantee.specs.Demand3.{layout, is_listed, totals_after, month_after, amount_after, Run, answer_of, output_of, month, amount_of, GrantsTaken}
 use Rattle.guarantee.specs.Demand3.{SameGrants, TotalsAre, after_lines, AddsUp, DollarsFall, SameStatement, Demand3, Under96, SameBytes, WithoutGrants}
+use Rattle.guarantee.specs.DayOff.{FallsButOff, OneDayOff, DaysOff}
 
 -- the totals of a month, read back, whatever stands behind them
 module _ (P : Rules) (small : P.dollars ≤ 10000) (ys : List ℕ) (e : ℕ) (j : Judged) where
@@ -312,10 +315,10 @@ module _ (S C : List ℕ) (listed : is_listed S C ≡ true) where
         go zero e = taken_both (same_bytes e)
         go (suc n) e = refused_both (suc n) e (λ z. cc)
 
-  module _ (p q : Run S C) (h : Falls S C p.posts q.posts) (g : SameGrants S C p q) where
+  module _ (p q : Run S C) (off : (g day : ℕ) → Bool) (h : FallsButOff S C off p.posts q.posts) (g : SameGrants S C p q) where
     lighter : (e : ℕ) → amount_of S C q e ≤ amount_of S C p e
     lighter e =
-        let falls = (rules-laws S (opens S p.book p.opened).schedule).lighter_amount (terms S (layout S)) (totals_after S C q.posts) (totals_after S C p.posts) in
+        let falls = (rules-laws S (opens S p.book p.opened).schedule).off_amount (terms S (layout S)) off (totals_after S C q.posts) (totals_after S C p.posts) in
         subst (λ (G : List ℕ). amount_after S C q.posts G e ≤ amount_of S C p e) g.same (falls (named S (layout S) C p.grants) h g.none_severe e)
 
     lighter_dollars : DollarsFall S C p q
@@ -330,11 +333,21 @@ module _ (S C : List ℕ) (listed : is_listed S C ≡ true) where
 pub demand3 : (S C : List ℕ) → is_listed S C ≡ true → Demand3 S C
 demand3 S C listed =
     record {
-      falls = lighter S C listed;
-      dollars_fall = lighter_dollars S C listed;
+      falls = λ p q h. lighter S C listed p q no_day_off (none_off h);
+      dollars_fall = λ p q h. lighter_dollars S C listed p q no_day_off (none_off h);
       adds_up = λ p t. added S C listed p (no_cause S C listed p t);
       own_only = same_statement S C listed;
     }
+
+-- any days off
+pub days_off : (S C : List ℕ) → is_listed S C ≡ true → DaysOff S C
+days_off S C listed = record { falls = lighter S C listed; dollars_fall = lighter_dollars S C listed }
+
+-- one in each group
+pub one-off : (S C : List ℕ) → is_listed S C ≡ true → OneDayOff S C
+one-off S C listed =
+    let any = days_off S C listed in
+    record { falls = λ p q off. any.falls p q (one_day_off off); dollars_fall = λ p q off. any.dollars_fall p q (one_day_off off) }
 
 pub under-96 : (S C : List ℕ) → Under96 S C
 unfolding rules_of
@@ -365,8 +378,8 @@ module _ (S C : List ℕ) (listed : is_listed S C ≡ true) where
       record {
         marks = λ p e i. ap (λ (b : Bool). granted_mark b (mark_without_grants (rules_of S) (month S C p) i)) (not_granted p e i);
         none_granted = λ p e f. none_granted (rules_of S) (month S C p) f (not_granted p e);
-        falls = λ p q e f h. lighter S C listed p q h (same_none p q e f);
-        dollars_fall = λ p q e f h. lighter_dollars S C listed p q h (same_none p q e f);
+        falls = λ p q e f h. lighter S C listed p q no_day_off (none_off h) (same_none p q e f);
+        dollars_fall = λ p q e f h. lighter_dollars S C listed p q no_day_off (none_off h) (same_none p q e f);
         adds_up = λ p e. added S C listed p (none-cause p e);
         own_only = λ p q e f h. same_bytes S C listed p q h (e ∙ sym f) (none-cause p e);
       }
