@@ -3,7 +3,7 @@
 use Prim.Native.Nat.{ℕ, ◌+◌, ◌-◌, ◌<◌}
 use mathlib.Core.Bool.{Bool, true, false, not, ◌&&◌, ◌||◌, false≢true}
 use mathlib.Core.List.{List}
-use mathlib.Core.Path.{◌≡◌, refl, sym, ap, ap₂, subst, ◌∙◌}
+use mathlib.Core.Path.{◌≡◌, refl, sym, ap, ap₂, subst, subst₂, ◌∙◌}
 use native.Mathlib.Omega.{arith}
 use lib.Dec.{leb, ltb, eqb}
 use borrow.Author.Tests.{leb-true, ltb-true, eqb-true}
@@ -14,7 +14,7 @@ use Rattle.wire.proofs.Bools.{range}
 use Rattle.wire.proofs.Sums.{count-all}
 use Rattle.rules.specs.Verdict.{is_severe}
 use Rattle.rules.specs.Marks.{places, Judged}
-use Rattle.rules.specs.Lighter.{Lighter, LighterCell, DayOff, one_day_off, NoSevereNamed}
+use Rattle.rules.specs.Lighter.{Lighter, CellFalls, DayOff, one_day_off, NoSevereNamed}
 use Rattle.rules.specs.declared.Totals.{Totals}
 use Rattle.calendar.specs.Calendar.{days_in, in_effect}
 use Rattle.calendar.proofs.Laws.{days_most}
@@ -22,10 +22,10 @@ use Rattle.month.specs.Month.{terms}
 use Rattle.grants.specs.Grants.{grants_causes}
 use Rattle.schedule.specs.Samples.{ABC}
 use Rattle.guarantee.specs.Demand3.{layout, totals_after, month_after, Run, Falls, SameGrants}
-use Rattle.guarantee.specs.DayOff.{FallsButOff}
+use Rattle.guarantee.specs.DayOff.{FallsWithDaysOff}
 use Rattle.guarantee.specs.Example.{schedule, run, some_days, is_lighter, is_kept, days_where, is_spared, Applies, example}
-use Rattle.guarantee.specs.DayOffExample.{before_off, after_off, fifth_off, falls_or_off, OffApplies, day_off}
-use Rattle.guarantee.proofs.Demand3.{no_cause_taken}
+use Rattle.guarantee.specs.DayOffExample.{before_off, after_off, fifth_day, falls_or_off, OffApplies, day_off}
+use Rattle.guarantee.proofs.Demand3.{no_cause_taken, one_day, without_grants}
 
 lighter_by : (t' t : Totals) → is_lighter t' t ≡ true → Lighter t' t
 lighter_by t' t e =
@@ -43,7 +43,7 @@ kept_by t' t e h = go (leb t.raw 0) refl e
     go true q w = absurd (omega (arith, leb-true t.raw 0 q))
     go false q w = ltb-true 0 t'.raw w
 
-cell_by : (t' t : Totals) → is_lighter t' t ≡ true → is_kept t' t ≡ true → LighterCell t' t
+cell_by : (t' t : Totals) → is_lighter t' t ≡ true → is_kept t' t ≡ true → CellFalls t' t
 cell_by t' t l k = record { lighter = lighter_by t' t l; kept = kept_by t' t k }
 
 -- a test that holds on 31 days holds of every day in effect
@@ -90,7 +90,7 @@ applies =
     }
 
 -- the fifth day is taken off, and every other one falls
-fifth_falls : FallsButOff schedule ABC (one_day_off fifth_off) before_off after_off
+fifth_falls : FallsWithDaysOff schedule ABC (one_day_off fifth_day) before_off after_off
 fifth_falls =
     record {
       days_off = λ g day h on q. let z : g ≡ 0 = omega (arith, example.one_group) in rw (z, ← eqb-true 5 day q) fifth;
@@ -103,7 +103,7 @@ fifth_falls =
     fifth = record { counts = day_off.off_counts; silent = day_off.off_raw; no_lots = day_off.off_lots; average = day_off.off_average }
 
     other : (day : ℕ) → eqb 5 day ≡ false → falls_or_off day ≡ true
-        → LighterCell (totals_after schedule ABC after_off 0 day) (totals_after schedule ABC before_off 0 day)
+        → CellFalls (totals_after schedule ABC after_off 0 day) (totals_after schedule ABC before_off 0 day)
     other day q e =
         let t' = totals_after schedule ABC after_off 0 day in
         let t = totals_after schedule ABC before_off 0 day in
@@ -111,4 +111,11 @@ fifth_falls =
         cell_by t' t (first_so (is_lighter t' t) (is_kept t' t) both) (second_so (is_lighter t' t) (is_kept t' t) both)
 
 pub off_applies : OffApplies
-off_applies = record { fifth = fifth_falls }
+off_applies =
+    record {
+      fifth = fifth_falls;
+      amount = λ p q ps qs pg qg.
+          (one_day schedule ABC example.is_firm fifth_day).falls p q
+          (subst₂ (FallsWithDaysOff schedule ABC (one_day_off fifth_day)) (sym ps) (sym qs) fifth_falls)
+          ((without_grants schedule ABC example.is_firm).same_grants p q pg qg);
+    }

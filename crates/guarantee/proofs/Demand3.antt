@@ -1,5 +1,5 @@
--- Demand 3. From an opened book a listed firm's cells are its accepted totals, which fit, so that only its grants and 23 can refuse its statement: the
--- bytes are those of the month after the list. Their totals are read back as they were written, each number being small enough; the rules' laws add
+-- Demand 3, and days off. From an opened book a listed firm's cells are its accepted totals, which fit, so that only its grants and 23 can refuse its statement: the
+-- bytes are those of the month after the list. The amount falls by the rules' law of days off; demand 3 takes none. Totals are read back as they were written, each number being small enough; the rules' laws add
 -- them up; and the firm's own posts alone make its accepted totals. What 34 and 35 say of grants goes by the schedule alone.
 use Prim.Native.Nat.{ℕ, zero, suc, ◌+◌, ◌*◌, ◌≤◌, ◌<◌}
 use mathlib.Core.Bool.{Bool, true, false, not, ◌&&◌, and-true, and-false, false≢true}
@@ -22,8 +22,8 @@ use Rattle.calendar.specs.Calendar.{days_in}
 use Rattle.rules.specs.Verdict.{is_violation}
 use Rattle.rules.specs.Month.{DailyTotals}
 use Rattle.rules.specs.Marks.{places, day_of, group_of, Judged, is_billed, granted_mark, mark_without_grants, mark, violations, marked, billed, amount}
-use Rattle.rules.specs.Lighter.{no_day_off, one_day_off}
-use Rattle.rules.proofs.Lighter.{none_off}
+use Rattle.rules.specs.Lighter.{one_day_off}
+use Rattle.rules.proofs.Lighter.{no_day_off, none_off}
 use Rattle.rules.proofs.Bills.{none_granted, adds_up, dollars}
 use Rattle.rules.specs.declared.Rules.{Rules}
 use native.Mathlib.Nat.{mul-le-mul}
@@ -55,7 +55,7 @@ use Rattle.statement.proofs.Answers.{is-refused}
 use Rattle.statement.proofs.Shown.{lines_length, mark_some, marks-count, bytes-length}
 use Rattle.guarantee.specs.Demand3.{layout, is_listed, totals_after, month_after, amount_after, Run, answer_of, output_of, month, amount_of, GrantsTaken}
 use Rattle.guarantee.specs.Demand3.{SameGrants, TotalsAre, after_lines, AddsUp, DollarsFall, SameStatement, Demand3, Under96, SameBytes, WithoutGrants}
-use Rattle.guarantee.specs.DayOff.{FallsButOff, OneDayOff, DaysOff}
+use Rattle.guarantee.specs.DayOff.{FallsWithDaysOff, OneDayOff, DaysOff}
 
 -- the totals of a month, read back, whatever stands behind them
 module _ (P : Rules) (small : P.dollars ≤ 10000) (ys : List ℕ) (e : ℕ) (j : Judged) where
@@ -315,7 +315,7 @@ module _ (S C : List ℕ) (listed : is_listed S C ≡ true) where
         go zero e = taken_both (same_bytes e)
         go (suc n) e = refused_both (suc n) e (λ z. cc)
 
-  module _ (p q : Run S C) (off : (g day : ℕ) → Bool) (h : FallsButOff S C off p.posts q.posts) (g : SameGrants S C p q) where
+  module _ (p q : Run S C) (off : (g day : ℕ) → Bool) (h : FallsWithDaysOff S C off p.posts q.posts) (g : SameGrants S C p q) where
     lighter : (e : ℕ) → amount_of S C q e ≤ amount_of S C p e
     lighter e =
         let falls = (rules-laws S (opens S p.book p.opened).schedule).off_amount (terms S (layout S)) off (totals_after S C q.posts) (totals_after S C p.posts) in
@@ -340,14 +340,13 @@ demand3 S C listed =
     }
 
 -- any days off
-pub days_off : (S C : List ℕ) → is_listed S C ≡ true → DaysOff S C
-days_off S C listed = record { falls = lighter S C listed; dollars_fall = lighter_dollars S C listed }
+pub days_off : (S C : List ℕ) → is_listed S C ≡ true → (off : (g day : ℕ) → Bool) → DaysOff S C off
+days_off S C listed off =
+    record { falls = λ p q. lighter S C listed p q off; dollars_fall = λ p q. lighter_dollars S C listed p q off }
 
 -- one in each group
-pub one-off : (S C : List ℕ) → is_listed S C ≡ true → OneDayOff S C
-one-off S C listed =
-    let any = days_off S C listed in
-    record { falls = λ p q off. any.falls p q (one_day_off off); dollars_fall = λ p q off. any.dollars_fall p q (one_day_off off) }
+pub one_day : (S C : List ℕ) → is_listed S C ≡ true → OneDayOff S C
+one_day S C listed day_of = days_off S C listed (one_day_off day_of)
 
 pub under-96 : (S C : List ℕ) → Under96 S C
 unfolding rules_of
@@ -376,6 +375,7 @@ module _ (S C : List ℕ) (listed : is_listed S C ≡ true) where
   pub without_grants : WithoutGrants S C
   without_grants =
       record {
+        same_grants = same_none;
         marks = λ p e i. ap (λ (b : Bool). granted_mark b (mark_without_grants (rules_of S) (month S C p) i)) (not_granted p e i);
         none_granted = λ p e f. none_granted (rules_of S) (month S C p) f (not_granted p e);
         falls = λ p q e f h. lighter S C listed p q no_day_off (none_off h) (same_none p q e f);

@@ -1,8 +1,8 @@
--- Computed examples of days off (document 02, 2.10): two days that may not be taken off, since the rest of the month is not exempt without them, one below
--- the group's monthly average and one with lots; and a month that the claim applies to, whose amount falls.
+-- Computed examples of days off (document 02, 2.10): two days that may not be taken off, one below the group's monthly average and one with lots, since
+-- without either the month is no longer exempt; and a month that the claim applies to, whose amount falls.
 -- Assumes nothing.
-use Rattle.std.specs.Prelude.{ℕ, ◌+◌, Bool, true, false, ◌&&◌, ◌||◌, List, [], ◌∷◌, ◌++◌, ◌≡◌, refl, eqb}
-use Rattle.wire.specs.Bytes.{u16_at, u32_at}
+use Rattle.std.specs.Prelude.{ℕ, ◌+◌, ◌≤◌, Bool, true, false, ◌&&◌, ◌||◌, List, [], ◌∷◌, ◌++◌, ◌≡◌, refl, eqb}
+use Rattle.wire.specs.Bytes.{u16_at, u32_at, u32_bytes}
 use Rattle.wire.specs.Choose.{choose, all, seek_in}
 use Rattle.wire.specs.Lists.{joined, table}
 use Rattle.wire.specs.Sums.{sum, count}
@@ -27,8 +27,8 @@ use Rattle.accepted.specs.Samples.{orders}
 use Rattle.month.specs.Month.{any_excess, month_answer, terms}
 use Rattle.grants.specs.Month as months
 use Rattle.statement.specs.Lines.{line_at, tally, shown}
-use Rattle.guarantee.specs.Demand3.{layout, totals_after, amount_after}
-use Rattle.guarantee.specs.DayOff.{FallsButOff}
+use Rattle.guarantee.specs.Demand3.{layout, totals_after, amount_after, Run, amount_of}
+use Rattle.guarantee.specs.DayOff.{FallsWithDaysOff}
 use Rattle.guarantee.specs.Example.{schedule, no_violations, answers, leaves, is_lighter, is_kept}
 
 -- 60,001 messages with a score of 20,000 on a day, and so many lots: with 1,000 an ordinary violation of the highest tier, with none a severe one
@@ -47,7 +47,7 @@ below_average = four ++ orders 69 83 5 1 0 0 0 ∷ []
 abbrev three : List (List ℕ)
 three = busy 1 1000 ∷ busy 2 1000 ∷ busy 3 1000 ∷ []
 
--- and a fourth of the average, that scores nothing and has many lots, which exempt the month
+-- and a fourth day, whose raw count is the average, with no score and many lots, which exempt the month
 abbrev with_lots : List (List ℕ)
 with_lots = three ++ orders 69 83 4 60001 0 0 1000000 ∷ []
 
@@ -59,12 +59,12 @@ free_lines n m = joined n (λ i. 13 ∷ 0 ∷ 18 ∷ 0 ∷ (i + 1) ∷ 69 ∷ 83
 abbrev billed_line : (day : ℕ) → List ℕ
 billed_line day = 13 ∷ 0 ∷ 18 ∷ 0 ∷ day ∷ 69 ∷ 83 ∷ 2 ∷ 232 ∷ 3 ∷ 0 ∷ 0 ∷ 1 ∷ []
 
--- totals of grouping 1, by the low bytes of what they count: all are monthly, or two are automatic and so many billed, with dollars
+-- totals of grouping 1, of n violations: all are monthly, or two are automatic and so many billed
 abbrev all_monthly : (n : ℕ) → List ℕ
 all_monthly n = 20 ∷ 0 ∷ 19 ∷ 0 ∷ 1 ∷ 0 ∷ n ∷ 0 ∷ n ∷ 0 ∷ 0 ∷ 0 ∷ 0 ∷ 0 ∷ 0 ∷ 0 ∷ 0 ∷ 0 ∷ 0 ∷ 0 ∷ []
 
-abbrev two_automatic : (n billed low high : ℕ) → List ℕ
-two_automatic n billed low high = 20 ∷ 0 ∷ 19 ∷ 0 ∷ 1 ∷ 0 ∷ n ∷ 0 ∷ 0 ∷ 0 ∷ 2 ∷ 0 ∷ 0 ∷ 0 ∷ billed ∷ 0 ∷ low ∷ high ∷ 0 ∷ 0 ∷ []
+abbrev two_automatic : (n billed dollars : ℕ) → List ℕ
+two_automatic n billed dollars = (20 ∷ 0 ∷ 19 ∷ 0 ∷ 1 ∷ 0 ∷ n ∷ 0 ∷ 0 ∷ 0 ∷ 2 ∷ 0 ∷ 0 ∷ 0 ∷ billed ∷ 0 ∷ []) ++ u32_bytes dollars
 
 -- five days of the same raw count, each the average; on the last no lots
 abbrev pub before_off : List (List ℕ)
@@ -75,12 +75,12 @@ abbrev pub after_off : List (List ℕ)
 after_off = busy 1 2000 ∷ busy 2 1000 ∷ busy 3 1000 ∷ busy 4 1000 ∷ []
 
 -- day 5 is taken off
-abbrev pub fifth_off : (g : ℕ) → ℕ
-fifth_off g = 5
+abbrev pub fifth_day : (g : ℕ) → ℕ
+fifth_day g = 5
 
--- the raw count of a day after a list is at least the group's average
-abbrev is_average : List (List ℕ) → (day : ℕ) → Bool
-is_average rs day =
+-- the raw count of a day after a list is at least the group's monthly average
+abbrev reaches_average : List (List ℕ) → (day : ℕ) → Bool
+reaches_average rs day =
     let c = totals_after schedule ABC rs in
     let s = terms schedule (layout schedule) in
     at_least_average (c 0 day).raw (days s c 0) (sums s c 0).raw
@@ -94,29 +94,31 @@ falls_or_off day =
 
 pub record DayOffExample : Type 0 where
   -- a day below the average: the month is exempt with it, and costs 2,000 dollars without
-  pub below : is_average below_average 5 ≡ false
+  pub below : reaches_average below_average 5 ≡ false
   pub below_answer : answers schedule 1 below_average [] ≡ good 92
   pub below_output : leaves schedule 1 below_average [] ≡ free_lines 4 3 ++ all_monthly 4 ++ no_violations ++ table 28 (λ i. 7)
   pub without_answer : answers schedule 1 four [] ≡ good 92
-  pub without_output : leaves schedule 1 four [] ≡ free_lines 2 4 ++ billed_line 3 ++ billed_line 4 ++ two_automatic 4 2 208 7 ++ no_violations ++ table 28 (λ i. 7)
-  -- a day of the average, with lots: the month is exempt with it, and costs 1,000 dollars without
-  pub average : is_average with_lots 4 ≡ true
+  pub without_output : leaves schedule 1 four [] ≡ free_lines 2 4 ++ billed_line 3 ++ billed_line 4 ++ two_automatic 4 2 2000 ++ no_violations ++ table 28 (λ i. 7)
+  -- a day at the average, with lots: the month is exempt with it, and costs 1,000 dollars without
+  pub average : reaches_average with_lots 4 ≡ true
   pub lots_answer : answers schedule 1 with_lots [] ≡ good 79
   pub lots_output : leaves schedule 1 with_lots [] ≡ free_lines 3 3 ++ all_monthly 3 ++ no_violations ++ table 41 (λ i. 7)
   pub lotless_answer : answers schedule 1 three [] ≡ good 79
-  pub lotless_output : leaves schedule 1 three [] ≡ free_lines 2 4 ++ billed_line 3 ++ two_automatic 3 1 232 3 ++ no_violations ++ table 41 (λ i. 7)
-  -- a day of the average, without lots, may be taken off; other days fall as before, and the amount with them
+  pub lotless_output : leaves schedule 1 three [] ≡ free_lines 2 4 ++ billed_line 3 ++ two_automatic 3 1 1000 ++ no_violations ++ table 41 (λ i. 7)
+  -- a day at the average, without lots, may be taken off; other days fall as before, and the amount with them
   pub off_counts : counted (terms schedule (layout schedule)) (totals_after schedule ABC before_off) 0 5 ≡ true
   pub off_raw : (totals_after schedule ABC after_off 0 5).raw ≡ 0
   pub off_lots : (totals_after schedule ABC before_off 0 5).lots ≡ 0
-  pub off_average : is_average before_off 5 ≡ true
+  pub off_average : reaches_average before_off 5 ≡ true
   pub others_fall : count 31 (λ i. falls_or_off (i + 1)) ≡ 31
   pub before_amount : amount_after schedule ABC before_off [] 1 ≡ 3000
   pub after_amount : amount_after schedule ABC after_off [] 1 ≡ 1000
 
--- so the claim applies to it: proved in proofs/Applied.antt
+-- so the claim applies to it, without grants: proved in proofs/Applied.antt
 pub record OffApplies : Type 0 where
-  pub fifth : FallsButOff schedule ABC (one_day_off fifth_off) before_off after_off
+  pub fifth : FallsWithDaysOff schedule ABC (one_day_off fifth_day) before_off after_off
+  pub amount : (p q : Run schedule ABC) → p.posts ≡ before_off → q.posts ≡ after_off → p.grants ≡ [] → q.grants ≡ []
+      → (e : ℕ) → amount_of schedule ABC q e ≤ amount_of schedule ABC p e
 
 pub day_off : DayOffExample
 unfolding accepted_cells posted taking totals_of correction_fields check_book check_of scan ending with_record cause is_repeated fields_ok

@@ -1,5 +1,5 @@
 -- Demand 3 of the customer's letter, in the words of document 01 ("Demand 3 is a single claim about whole lists of posts") and of the calls,
--- bytes, scores, corrections, refusals, grants and constants as document 02, 2.1 to 2.9, has them. S is the schedule, any bytes; C a firm's code; rs a list of
+-- bytes, scores, corrections, refusals, grants and constants as document 02, 2.1 to 2.9, has them; 2.10 has a claim of its own, DayOff.antt. S is the schedule, any bytes; C a firm's code; rs a list of
 -- posts, any byte strings, activity and corrections among them in any order; G the grants, any bytes.
 -- Proved in proofs/Demand3.antt: of every schedule and every firm that it lists.
 -- Assumes nothing.
@@ -161,6 +161,8 @@ pub record SameBytes (S C : List ℕ) (p q : Run S C) : Type 0 where
 
 -- the claim without grants: nothing is asked of them, and no statement is refused
 pub record WithoutGrants (S C : List ℕ) : Type 0 where
+  -- what is asked of grants holds; so 2.10's claim (DayOff.antt) is one without them too
+  pub same_grants : (p q : Run S C) → p.grants ≡ [] → q.grants ≡ [] → SameGrants S C p q
   -- every mark is that without grants, and none is 5
   pub marks : (p : Run S C) → p.grants ≡ [] → (i : ℕ) → mark (rules_of S) (month S C p) i ≡ mark_without_grants (rules_of S) (month S C p) i
   pub none_granted : (p : Run S C) → p.grants ≡ [] → (e : ℕ) → marked (rules_of S) (month S C p) e 5 ≡ 0

@@ -12,14 +12,13 @@ use Rattle.wire.proofs.Implies.{follows}
 use Rattle.rules.specs.Verdict.{version96, verdict, is_refused, decided, refusal, days_verdict, number_of, panel_number}
 use Rattle.std.specs.Cmp.{first_so, second_so}
 use Rattle.rules.specs.Constants.{in_range, in_order, is_lawful, Falling, clamped}
-use Rattle.rules.specs.Lighter.{no_day_off}
 use Rattle.rules.specs.Laws.{Laws, LawfulSets, read_back, Panel}
 use Rattle.rules.specs.declared.Rules.{Rules}
 use Rattle.rules.specs.declared.Totals.{Totals}
 use Rattle.rules.proofs.Codes.{fails, severe, factor, violation_falls, severe_falls, never_24, pair}
 use Rattle.rules.proofs.Marks.{frees_none}
 use Rattle.rules.proofs.Bills.{adds_up, dollars}
-use Rattle.rules.proofs.Lighter.{eased, exempt_stays, amount_lighter, none_off}
+use Rattle.rules.proofs.Lighter.{eased, exempt_stays, amount_lighter, no_day_off, none_off}
 
 pub laws : (P : Rules) → Falling P → Laws P
 laws P F =

@@ -7,7 +7,7 @@ use Rattle.rules.specs.Constants.{is_lawful, Falling, clamped}
 use Rattle.rules.specs.Verdict.{version96, tier_factor, exceeds, verdict, is_violation, is_severe, is_refused, decided, refusal, days_verdict, number_of, panel_number}
 use Rattle.rules.specs.Month.{Terms, DailyTotals, exempt}
 use Rattle.rules.specs.Marks.{Judged, judged, violations, mark_without_grants, mark, marked, billed, amount}
-use Rattle.rules.specs.Lighter.{Lighter, LighterMonth, LighterButOff, NoSevereNamed}
+use Rattle.rules.specs.Lighter.{Lighter, LighterMonth, LighterWithDaysOff, NoSevereNamed}
 use Rattle.rules.specs.declared.Rules.{Rules}
 use Rattle.rules.specs.declared.Totals.{Totals}
 use Rattle.rules.specs.declared.Verdict.{Verdict}
@@ -31,11 +31,11 @@ pub record Laws (P : Rules) : Type 0 where
   -- and so does not raise the amount, in any grouping; 2.6: where the grants are the same, and name no place that was severe
   pub lighter_amount : (s : Terms) (c' c : DailyTotals) (named : (i : ℕ) → Bool) → LighterMonth s c' c → NoSevereNamed (judged P s c named) → (e : ℕ)
       → amount P (judged P s c' named) e ≤ amount P (judged P s c named) e
-  -- 2.10: so it is where, in each group, days of at least its average and without lots are taken off: an exemption is kept
-  pub off_exempt : (s : Terms) (off : (g day : ℕ) → Bool) (c' c : DailyTotals) → LighterButOff s off c' c → (g : ℕ) → g < s.groups
+  -- 2.10: so do days off, without lots and of at least the group's average, where every other cell falls
+  pub off_exempt : (s : Terms) (off : (g day : ℕ) → Bool) (c' c : DailyTotals) → LighterWithDaysOff s off c' c → (g : ℕ) → g < s.groups
       → exempt P s c g ≡ true → exempt P s c' g ≡ true
-  -- and the amount is not raised
-  pub off_amount : (s : Terms) (off : (g day : ℕ) → Bool) (c' c : DailyTotals) (named : (i : ℕ) → Bool) → LighterButOff s off c' c
+  -- and they do not raise the amount
+  pub off_amount : (s : Terms) (off : (g day : ℕ) → Bool) (c' c : DailyTotals) (named : (i : ℕ) → Bool) → LighterWithDaysOff s off c' c
       → NoSevereNamed (judged P s c named) → (e : ℕ) → amount P (judged P s c' named) e ≤ amount P (judged P s c named) e
   -- 2.6: a grant frees no waiver: the same places have mark 3, and the same have mark 4, as without grants
   pub frees_none : (j : Judged) (i : ℕ) → (eqb (mark P j i) 3 ≡ eqb (mark_without_grants P j i) 3) × (eqb (mark P j i) 4 ≡ eqb (mark_without_grants P j i) 4)

@@ -1,5 +1,5 @@
 -- The eleven marked days and the month (document 01, "Eleven marked days, a month and one whole run"), each against B = 1,000; with each day's factor
--- and the panel's number (document 02, 2.1); and months day by day, each of them without the days that a team takes off (2.10).
+-- and the panel's number (document 02, 2.1); and months with and without the days that a team takes off (2.10).
 -- Assumes nothing.
 use Rattle.std.specs.Prelude.{ℕ, ◌+◌, ◌*◌, ◌-◌, Bool, true, List, [], ◌∷◌, ◌++◌, map, ◌≡◌, refl, eqb, get_or}
 use Rattle.wire.specs.Choose.{choose, all, within}
@@ -10,7 +10,8 @@ use Rattle.rules.specs.Month.{Terms, is_exempt}
 use Rattle.rules.specs.Marks.{Judged, no_grants, judged, marked, billed, amount}
 use Rattle.rules.specs.declared.Totals.{Totals}
 
--- a day and the code and factor that are right for it, or an exempt month: d, R, S and V
+-- a day and the code and factor that are right for it; an exempt month, d, R, S and V; or the days of a month, how many are monthly, automatic and billed, and
+-- the dollars
 pub data Case : Type 0 where
   day : (raw score lots code m : ℕ) → Case
   month : (d raw score lots : ℕ) → Case
@@ -33,10 +34,10 @@ right (day raw score lots n m) =
     let v = verdict version96 1000 1 t in
     all (eqb v.code n ∷ eqb v.factor m ∷ eqb (panel_number t 1000) (10 * n + m) ∷ [])
 right (month d raw score lots) = is_exempt version96 1000 d (record { raw = raw; score = score; lots = lots })
-right (bill ts monthly automatic bills dollars) =
+right (bill ts monthly automatic charged dollars) =
     let P = version96 in
     let j = month_of ts in
-    all (eqb (marked P j 1 3) monthly ∷ eqb (marked P j 1 4) automatic ∷ eqb (billed P j 1) bills ∷ eqb (amount P j 1) dollars ∷ [])
+    all (eqb (marked P j 1 3) monthly ∷ eqb (marked P j 1 4) automatic ∷ eqb (billed P j 1) charged ∷ eqb (amount P j 1) dollars ∷ [])
 
 abbrev pub cases : List Case
 cases =
@@ -52,16 +53,16 @@ cases =
     ∷ day 40000 30000 1000 3 3
     ∷ day 40001 30000 1000 4 2
     ∷ month 20 1570000 1210000 405000
-    -- 2.10: a day below the average: without day 5 the month's average is above the third edge
+    -- 2.10: a day below the average: without day 5 the average is above the third edge
     ∷ bill (alike 4 60001 20000 1000 ++ alike 1 1 0 0) 4 0 0 0
     ∷ bill (alike 4 60001 20000 1000) 0 2 2 2000
-    -- a day of the average, with lots: they are in the month's sum no more
+    -- a day at the average, with lots, which leave the month's sum
     ∷ bill (alike 3 60001 20000 1000 ++ alike 1 60001 0 1000000) 3 0 0 0
     ∷ bill (alike 3 60001 20000 1000) 0 2 1 1000
-    -- two days of the average without its fraction
+    -- two days at the average rounded down (39,999 of 39,999.875): without them it is above the second edge
     ∷ bill (alike 3 40000 40000 1000 ++ alike 2 40000 20000 1000 ++ alike 1 40001 20000 1000 ++ alike 2 39999 0 0) 3 0 0 0
     ∷ bill (alike 3 40000 40000 1000 ++ alike 2 40000 20000 1000 ++ alike 1 40001 20000 1000) 0 2 1 1000
-    -- a day of the average and without lots may be taken off: it costs no more
+    -- a day at the average, without lots, may be taken off: without it 2,000 dollars, as above
     ∷ bill (alike 4 60001 20000 1000 ++ alike 1 60001 20000 0) 0 2 3 3000
     ∷ []
 
