@@ -1,7 +1,7 @@
--- A team takes a day off (document 02, 2.10), which demand 3's premise leaves out: a group's messages of a day are no longer sent. The amount is no higher then
--- either, where after the first list the firm had no lots in that cell, and a raw count of at least the group's monthly average.
--- Proved in proofs/Demand3.antt (`days_off`, `one_day`): of every schedule, so under every lawful set of constants, of every firm that it lists, and over the same
--- runs as demand 3.
+-- A team takes a day off (document 02, 2.10), which demand 3's premise leaves out: a group sends no messages on a day. The amount is no higher then either, where
+-- after the first list the firm had no lots in that cell, and a raw count of at least the group's monthly average.
+-- Proved in proofs/Demand3.antt (`days_off`, `one_day`): over the same runs as demand 3, of every schedule, so under every lawful set of constants, and of every
+-- firm that it lists.
 -- Assumes nothing.
 use Rattle.std.specs.Prelude.{ℕ, ◌≤◌, Bool, List}
 use Rattle.rules.specs.Lighter.{LighterWithDaysOff, one_day_off}
