@@ -1,6 +1,6 @@
 -- Demand 3 of the customer's letter, in the words of document 01 ("Demand 3 is a single claim about whole lists of posts") and of the calls,
--- bytes, scores, corrections, refusals, grants and constants as document 02, 2.1 to 2.9, has them; 2.10 has a claim of its own, DayOff.antt. S is the schedule, any bytes; C a firm's code; rs a list of
--- posts, any byte strings, activity and corrections among them in any order; G the grants, any bytes.
+-- bytes, scores, corrections, refusals, grants and constants as document 02, 2.1 to 2.9, has them; 2.10 has a claim of its own, DayOff.antt. S is the
+-- schedule, any bytes; C a firm's code; rs a list of posts, any byte strings, activity and corrections among them in any order; G the grants, any bytes.
 -- Proved in proofs/Demand3.antt: of every schedule and every firm that it lists.
 -- Assumes nothing.
 use Rattle.std.specs.Prelude.{ℕ, ◌+◌, ◌*◌, ◌≤◌, Bool, true, false, List, [], ◌≡◌, take, drop}
