@@ -1,10 +1,11 @@
 // The lines of the answers.
+use crate::digest::digest_of;
+use crate::hex::put_hex;
 use book::Effect;
 use month::MonthSums;
 use reason::{Explanation, Waiver};
 use refusals::Refusal;
 use rules::{Sides, Totals};
-use script::{digest_of, put_hex};
 use statement::LARGEST;
 use std::io;
 use window::{DAYS, Pushed, Window, WindowSums};

@@ -1,11 +1,11 @@
 // The commands of a script. Each has its operands behind its own byte.
 ghost use Rattle.std.specs.Prelude.{◌≡◌, ◌-◌, ◌≤◌, length};
 ghost use Rattle.std.specs.Iterator.{at_most};
-ghost use Rattle.script.specs.Script.{past_in};
+ghost use Rattle.cases.specs.Script.{past_in};
 
+use crate::script::Script;
 use crate::stop::Stop;
 use rules::Totals;
-use script::Script;
 
 // A command, with its operands.
 #[derive(Clone, Copy, Debug, PartialEq, Eq)]

@@ -3,7 +3,10 @@
 
 mod answers;
 mod commands;
+mod digest;
+mod hex;
 mod runner;
+mod script;
 mod stop;
 
 use answers::say;

@@ -2,7 +2,7 @@
 -- Assumes nothing.
 use Rattle.std.specs.Prelude.{ℕ, ◌+◌, ◌-◌, ◌*◌, min, max, List, length, take, drop}
 use Rattle.wire.specs.Bytes.{u32_at}
-use Rattle.script.specs.declared.script.Script.{Script}
+use Rattle.cases.specs.declared.script.Script.{Script}
 
 -- the number of eight bytes at a place of a list of bytes; past the end stand zeros
 unfoldable pub u64_at : List ℕ → ℕ → ℕ

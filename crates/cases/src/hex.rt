@@ -3,7 +3,7 @@ ghost use Rattle.std.specs.Prelude.{◌≡◌, ◌<◌};
 ghost use Rattle.io.specs.Counts.{IsPrefixLen};
 ghost use Rattle.io.specs.Digits.{hex_digit_ascii};
 ghost use Rattle.wire.specs.Lists.{table, over};
-ghost use Rattle.script.specs.Hex.{hex_at, hex_room};
+ghost use Rattle.cases.specs.Hex.{hex_at, hex_room};
 
 use wire::byte_at;
 
@@ -26,7 +26,7 @@ fn hex_at(bytes: &[u8], i: usize) -> u8
 
 // Writes the text of the bytes over the front of an array, as much of it as there is room for, and answers how much.
 #[tactic(auto, using(wire::proofs::Lists::table_write), unfolding(wire::specs::Lists::joined))]
-pub fn put_hex(bytes: &[u8], text: &mut [u8]) -> usize
+pub(crate) fn put_hex(bytes: &[u8], text: &mut [u8]) -> usize
     ensures prefix_len { IsPrefixLen result text.new }
     ensures value { result ≡ hex_room bytes.now text.old }
     ensures text_after { text.new ≡ over (table (hex_room bytes.now text.old) (hex_at bytes.now)) text.old }

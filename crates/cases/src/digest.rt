@@ -1,6 +1,6 @@
 // The digest of a book's numbers.
 ghost use Rattle.std.specs.Prelude.{◌≡◌, ◌+◌, ◌*◌, ◌%◌};
-ghost use Rattle.script.specs.Digest.{modulus, digest_of};
+ghost use Rattle.cases.specs.Digest.{modulus, digest_of};
 
 // A prime, 2^61 - 1.
 const MODULUS: u128 = 2_305_843_009_213_693_951;
@@ -13,7 +13,7 @@ fn with_number(digest: u64, n: u64) -> u64
 }
 
 // The digest of the numbers, from the first on.
-pub fn digest_of(book: &[u64]) -> u64
+pub(crate) fn digest_of(book: &[u64]) -> u64
     ensures { result ≡ digest_of 0 book.now }
 {
     book.iter().fold(0, |digest, n| with_number(digest, *n))

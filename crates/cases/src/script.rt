@@ -2,20 +2,20 @@
 ghost use Rattle.std.specs.Prelude.{◌≡◌, ◌+◌, ◌-◌, length, take, drop, get_or, leb};
 ghost use Rattle.wire.specs.Bytes.{u32_at};
 ghost use Rattle.wire.specs.Lists.{table};
-ghost use Rattle.script.specs.Script.{u64_at, piece_at, bytes_on, piece_on};
+ghost use Rattle.cases.specs.Script.{u64_at, piece_at, bytes_on, piece_on};
 
 use wire::{bytes_at, tail};
 
 // The bytes of a script, and the place of the next one to read.
 #[derive(Clone, Copy, Debug)]
-pub struct Script<'a> {
-    pub bytes: &'a [u8],
-    pub at: usize,
+pub(crate) struct Script<'a> {
+    pub(crate) bytes: &'a [u8],
+    pub(crate) at: usize,
 }
 
 impl<'a> Script<'a> {
     // A script of which nothing was read.
-    pub fn new(bytes: &'a [u8]) -> Self
+    pub(crate) fn new(bytes: &'a [u8]) -> Self
         ensures bytes { result.bytes.now ≡ bytes.now }
         ensures at { result.at ≡ 0 }
     {
@@ -23,21 +23,21 @@ impl<'a> Script<'a> {
     }
 
     // No byte is left to read.
-    pub fn is_done(&self) -> bool
+    pub(crate) fn is_done(&self) -> bool
         ensures { result ≡ leb (length self.now.bytes.now) self.now.at }
     {
         self.bytes.len() <= self.at
     }
 
     // Moves n bytes on, and no further than the script's end; a place past the end stays.
-    pub fn skip(&mut self, n: usize)
+    pub(crate) fn skip(&mut self, n: usize)
         ensures { self.new ≡ bytes_on self.old n }
     {
         self.at += n.min(self.bytes.len().saturating_sub(self.at));
     }
 
     // The bytes from one place to another, as many of them as the script has.
-    pub fn between(&self, start: usize, end: usize) -> &'a [u8]
+    pub(crate) fn between(&self, start: usize, end: usize) -> &'a [u8]
         ensures { result.now ≡ take (end - start) (drop start self.now.bytes.now) }
     {
         tail(&self.bytes[..end.min(self.bytes.len())], start)
@@ -55,7 +55,7 @@ impl<'a> Script<'a> {
 
     // Reads a byte.
     #[tactic(auto, unfolding(wire::specs::Lists::joined))]
-    pub fn byte(&mut self) -> u8
+    pub(crate) fn byte(&mut self) -> u8
         ensures value { result ≡ get_or self.old.bytes.now self.old.at 0 }
         ensures after { self.new ≡ bytes_on self.old 1 }
     {
@@ -64,7 +64,7 @@ impl<'a> Script<'a> {
 
     // Reads a number of four bytes.
     #[tactic(auto, unfolding(wire::specs::Bytes::u16_at, wire::specs::Bytes::u32_at, wire::specs::Lists::joined))]
-    pub fn u32(&mut self) -> u32
+    pub(crate) fn u32(&mut self) -> u32
         ensures value { result ≡ u32_at self.old.bytes.now self.old.at }
         ensures after { self.new ≡ bytes_on self.old 4 }
     {
@@ -73,7 +73,7 @@ impl<'a> Script<'a> {
 
     // Reads a number of eight bytes.
     #[tactic(auto, unfolding(wire::specs::Bytes::u16_at, wire::specs::Bytes::u32_at, wire::specs::Lists::joined, crate::specs::Script::u64_at))]
-    pub fn u64(&mut self) -> u64
+    pub(crate) fn u64(&mut self) -> u64
         ensures value { result ≡ u64_at self.old.bytes.now self.old.at }
         ensures after { self.new ≡ bytes_on self.old 8 }
     {
@@ -81,7 +81,7 @@ impl<'a> Script<'a> {
     }
 
     // Reads a piece: its size in four bytes, then its own bytes, which the script's end may cut.
-    pub fn piece(&mut self) -> &'a [u8]
+    pub(crate) fn piece(&mut self) -> &'a [u8]
         ensures value { result.now ≡ piece_at self.old.bytes.now self.old.at }
         ensures after { self.new ≡ piece_on self.old }
     {
