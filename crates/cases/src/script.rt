@@ -30,14 +30,14 @@ impl<'a> Script<'a> {
     }
 
     // Moves n bytes on, and no further than the script's end; a place past the end stays.
-    pub(crate) fn skip(&mut self, n: usize)
+    fn skip(&mut self, n: usize)
         ensures { self.new ≡ bytes_on self.old n }
     {
         self.at += n.min(self.bytes.len().saturating_sub(self.at));
     }
 
     // The bytes from one place to another, as many of them as the script has.
-    pub(crate) fn between(&self, start: usize, end: usize) -> &'a [u8]
+    fn between(&self, start: usize, end: usize) -> &'a [u8]
         ensures { result.now ≡ take (end - start) (drop start self.now.bytes.now) }
     {
         tail(&self.bytes[..end.min(self.bytes.len())], start)
