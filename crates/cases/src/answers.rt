@@ -1,5 +1,5 @@
 // The lines of the answers.
-use crate::digest::digest_of;
+use crate::digest::with_numbers;
 use crate::hex::put_hex;
 use book::Effect;
 use month::MonthSums;
@@ -8,7 +8,7 @@ use refusals::Refusal;
 use rules::{Sides, Totals};
 use statement::LARGEST;
 use std::io;
-use window::{DAYS, Pushed, Window, WindowSums};
+use window::{Pushed, Window, WindowSums};
 
 // What cannot be written is dropped: the second implementation's answers show what is missing.
 pub(crate) fn say(written: io::Result<()>) {
@@ -99,15 +99,12 @@ fn print_window(rt: &impl Print, sums: WindowSums) {
     say(print!(rt; "window {raw} {score} {lots} {days}"));
 }
 
-// The numbers of a window in the order in which its digest takes them: the lists, the count, the oldest's place.
-fn numbers_of(window: &Window) -> [u64; 3 * DAYS + 2] {
-    let ends = [window.count, window.oldest];
-    let lists = window.raw.iter().chain(&window.score).chain(&window.lots);
-    let mut numbers = [0; 3 * DAYS + 2];
-    for (to, from) in numbers.iter_mut().zip(lists.chain(&ends)) {
-        *to = *from;
-    }
-    numbers
+// The digest of a window's numbers: the lists, the count, the oldest's place.
+fn digest_of_window(window: &Window) -> u64 {
+    let raw = with_numbers(0, &window.raw);
+    let score = with_numbers(raw, &window.score);
+    let lots = with_numbers(score, &window.lots);
+    with_numbers(lots, &[window.count, window.oldest])
 }
 
 // What a new day of a window answered, and the digest of the window's numbers: after a refusal too, so that a change of it can be seen.
@@ -119,7 +116,7 @@ pub(crate) fn print_pushed(rt: &impl Print, pushed: Pushed) {
         }
         Ok(sums) => print_window(rt, sums),
     }
-    let digest = digest_of(&numbers_of(&pushed.window));
+    let digest = digest_of_window(&pushed.window);
     say(println!(rt; " {digest}"));
 }
 
@@ -130,6 +127,6 @@ pub(crate) fn print_verdict(rt: &impl Print, number: u64) {
 
 pub(crate) fn print_digest(rt: &impl Print, book: &[u64]) {
     let numbers = book.len();
-    let digest = digest_of(book);
+    let digest = with_numbers(0, book);
     say(println!(rt; "book {numbers} {digest}"));
 }

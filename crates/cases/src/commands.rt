@@ -8,7 +8,7 @@ use crate::stop::Stop;
 use rules::Totals;
 
 // A command, with its operands.
-#[derive(Clone, Copy, Debug, PartialEq, Eq)]
+#[derive(Clone, Copy)]
 pub(crate) enum Command<'a> {
     // S: the schedule of the calls that follow.
     Schedule(&'a [u8]),
@@ -110,7 +110,7 @@ fn read_command<'a>(script: &mut Script<'a>) -> Result<Command<'a>, Stop>
 }
 
 // The commands of a script, from the next one on.
-#[derive(Clone, Copy, Debug)]
+#[derive(Clone, Copy)]
 pub(crate) struct Commands<'a>(pub Script<'a>);
 
 impl<'a> Iterator for Commands<'a> {

@@ -12,9 +12,11 @@ fn with_number(digest: u64, n: u64) -> u64
     ((31 * u128::from(digest) + u128::from(n)) % MODULUS) as u64
 }
 
-// The digest of the numbers, from the first on.
-pub(crate) fn digest_of(book: &[u64]) -> u64
-    ensures { result ≡ digest_of 0 book.now }
+// The digest with more numbers taken into it, from the first on. That of no numbers is 0.
+pub(crate) fn with_numbers(digest: u64, numbers: &[u64]) -> u64
+    ensures { result ≡ digest_of digest numbers.now }
 {
-    book.iter().fold(0, |digest, n| with_number(digest, *n))
+    numbers
+        .iter()
+        .fold(digest, |digest, n| with_number(digest, *n))
 }

@@ -7,7 +7,7 @@ ghost use Rattle.cases.specs.Script.{u64_at, piece_at, bytes_on, piece_on};
 use wire::{bytes_at, tail};
 
 // The bytes of a script, and the place of the next one to read.
-#[derive(Clone, Copy, Debug)]
+#[derive(Clone, Copy)]
 pub(crate) struct Script<'a> {
     pub(crate) bytes: &'a [u8],
     pub(crate) at: usize,

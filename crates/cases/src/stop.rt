@@ -1,7 +1,7 @@
 // Why a command cannot be run. No other one follows it.
 use std::fmt;
 
-#[derive(Clone, Copy, Debug, PartialEq, Eq)]
+#[derive(Clone, Copy)]
 pub(crate) enum Stop {
     BadCommand,
     BookTooLarge,
