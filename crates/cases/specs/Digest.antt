@@ -1,4 +1,4 @@
--- The digest of a book's numbers.
+-- The digest of a list of numbers.
 -- Assumes nothing.
 use Rattle.std.specs.Prelude.{ℕ, ◌+◌, ◌*◌, ◌%◌, List, fold}
 

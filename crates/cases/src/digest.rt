@@ -1,4 +1,4 @@
-// The digest of a book's numbers.
+// The digest of a list of numbers, those of a book or of a window.
 ghost use Rattle.std.specs.Prelude.{◌≡◌, ◌+◌, ◌*◌, ◌%◌};
 ghost use Rattle.cases.specs.Digest.{modulus, digest_of};
 
