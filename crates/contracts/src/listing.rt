@@ -1,6 +1,7 @@
 // A group's listed contracts.
-ghost use Rattle.std.specs.Prelude.{◌≡◌, ◌<◌};
-ghost use Rattle.contracts.specs.Listing.{listed, contract, contract_bad, contracts_ok};
+ghost use Rattle.std.specs.Prelude.{◌≡◌, ◌<◌, ◌||◌, not, leb};
+ghost use Rattle.calendar.specs.Calendar.{is_month};
+ghost use Rattle.contracts.specs.Listing.{listed, contract, contracts_ok};
 
 use calendar::is_month;
 use wire::u16_at;
@@ -25,19 +26,24 @@ pub(crate) fn contract_at(body: &[u8], i: usize) -> u16
     u16_at(body, CONTRACTS + 2 * i)
 }
 
-// Listed contract i is no month number, or not above the one before it.
-#[tactic(auto, unfolding(crate::specs::Listing::contract_bad, crate::specs::Listing::before))]
-fn is_bad(body: &[u8], i: usize) -> bool
-    requires { i < listed body.now }
-    ensures { result ≡ contract_bad body.now i }
+// A listed contract is no month number, or not above the one before it.
+fn is_bad(m: u16, last: u16) -> bool
+    ensures { result ≡ (not (is_month m) || leb m last) }
 {
-    let m = contract_at(body, i);
-    !is_month(m) || 0 < i && m <= contract_at(body, i - 1)
+    !is_month(m) || m <= last
 }
 
 // The listed contracts are month numbers, strictly rising.
 pub fn contracts_ok(body: &[u8]) -> bool
     ensures { result ≡ contracts_ok body.now }
 {
-    !(0..listed_in(body)).any(|i| is_bad(body, i))
+    let mut last = 0;
+    for i in 0..listed_in(body) {
+        let m = contract_at(body, i);
+        if is_bad(m, last) {
+            return false;
+        }
+        last = m;
+    }
+    true
 }

@@ -1,32 +1,45 @@
--- The library asks the places of the listing one by one until one is bad, as the definition's search does.
-use Prim.Native.Nat.{zero-le}
-use Rattle.std.proofs.Common.{sym, ℕ, ◌<◌, ◌≡◌, Bool, true, false, MatchBool, refl, length, get_or, arith, rules, tests}
-use Rattle.std.specs.List.{HoldsAt, AllWithin, range_with_len}
-use Rattle.std.proofs.lemmas.Iterator.{YieldsList-from_range, cases_from_any}
-use Rattle.std.proofs.lemmas.List.FromFn.{get_or-range_with_len, length-range_with_len}
-use Rattle.wire.specs.Choose.{some}
-use Rattle.wire.proofs.Choose.{none_some, some_at}
-use Rattle.contracts.specs.Listing.{contract_bad, contracts_ok}
+-- The search for a bad contract has found none so far, and `last` is the contract before: so a return stops at the first bad one,
+-- and a walk to the end found none.
+use Rattle.std.proofs.Common.{List, ℕ, ◌+◌, ◌≡◌, refl, sym, ◌∙◌, add-one, Bool}
+use borrow.Author.Tests.{le-ltb}
+use Rattle.wire.proofs.Choose.{seek-next, seek_end, some_at}
+use Rattle.calendar.specs.Calendar.{is_month}
+use Rattle.std.specs.Prelude.{◌||◌, not, leb}
+use Rattle.contracts.specs.Listing.{contract, before, contract_bad, contracts_ok}
 use Rattle.contracts.proofs.listing.contracts_ok.Goals as goal
 
--- the numbers below n, by their places
-place : (n i : ℕ) → i < n → get_or (range_with_len 0 n) i 0 ≡ i
-place n i l = omega (arith, get_or-range_with_len 0 n i 0 l)
+before_next : (B : List ℕ) (i : ℕ) → before B (i + 1) ≡ contract B i
+unfolding before
+before_next B i = rw (add-one i)
 
-any_found : (n : ℕ) (p : ℕ → Bool) (r : Bool) → let all = range_with_len 0 n in
-    MatchBool r ((k : ℕ) × (k < length all) × HoldsAt (λ i. p i ≡ true) all k) (AllWithin (λ i. p i ≡ false) all 0 (length all)) → r ≡ some n p
-any_found n p true h =
-    let k : h.0 < n = omega (arith, h.1, length-range_with_len 0 n) in
-    sym (some_at n p h.0 k (rw (place n h.0 k) at (h.2 0)))
-any_found n p false h =
-    sym (none_some n p (λ i l. let k : i < length (range_with_len 0 n) = omega (arith, length-range_with_len 0 n) in
-    rw (place n i l) at (h i 0 zero-le k)))
+-- the test of a contract is the definition's
+asked : (B : List ℕ) (i m last : ℕ) (r : Bool) → m ≡ contract B i → last ≡ before B i → r ≡ (not (is_month m) || leb m last) → contract_bad B i ≡ r
+unfolding contract_bad
+asked B i m last r e f g = rw (g, e, f)
+
+pub loop-i-init : goal.loop-i-init
+unfolding before
+loop-i-init c = record { before_here = refl; seeks = refl }
+
+pub returns-then-is_bad : goal.returns-then-is_bad
+unfolding contracts_ok
+returns-then-is_bad c =
+    let l = c.loop-i in
+    let bad = asked _ _ _ _ _ c.contract_at-m.ensures l.invariant.before_here c.is_bad.ensures ∙ c.if-is_bad.true in
+    rw (← c.listed_in-i-end.ensures, some_at _ _ _ c.loop-i-test.true bad)
+
+pub loop-i-preserved : goal.loop-i-preserved
+loop-i-preserved c =
+    let l = c.loop-i in
+    let fine = asked _ _ _ _ _ c.contract_at-m.ensures l.invariant.before_here c.is_bad.ensures ∙ c.if-is_bad.false in
+    record {
+      before_here = c.contract_at-m.ensures ∙ sym (before_next _ _);
+      seeks = l.invariant.seeks ∙ seek-next _ _ _ c.loop-i-test.true fine;
+    }
 
 pub returns : goal.returns
 unfolding contracts_ok
 returns c =
-    let bad = contract_bad c.args.body.now in
-    let n = c.listed_in.result in
-    let found = cases_from_any _ _ _ (λ i. bad i ≡ true) (λ i. bad i ≡ false) c.any.ensures.ran (YieldsList-from_range 0 n n refl (omega arith))
-    (λ i q k. search (rules, tests)) (λ i q k. search (rules, tests)) in
-    rw (any_found n bad c.any.result found, c.listed_in.ensures)
+    let l = c.loop-i in
+    let n = c.loop-i-test.false in
+    rw (← c.listed_in-i-end.ensures, l.invariant.seeks, seek_end _ _ _ n, le-ltb _ _ n)
