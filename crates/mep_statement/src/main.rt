@@ -2,13 +2,21 @@
 // `report` writes; only reading and printing stand here.
 #![tactic(auto)]
 
-ghost use Rattle.std.specs.Prelude.{◌≡◌, length};
+ghost use Rattle.std.specs.Prelude.{◌≡◌, ◌+◌, length};
+ghost use Rattle.input.specs.Input.{input_limit};
 ghost use Rattle.report.specs.Answer.{output_size};
 
 use input::INPUT;
 use reading::read_full;
 use report::{OUTPUT, report};
 use std::io;
+
+// One byte more than the program takes, so that a longer input is seen to be too long.
+fn input_buffer() -> [u8; INPUT + 1]
+    ensures { input_limit + 1 ≡ length result }
+{
+    [0; INPUT + 1]
+}
 
 // No report is longer.
 fn output_buffer() -> [u8; OUTPUT]
@@ -18,8 +26,7 @@ fn output_buffer() -> [u8; OUTPUT]
 }
 
 fn main(rt: HostRuntime) -> io::Result<()> {
-    // One byte more than the program takes, so that a longer input is seen to be too long.
-    let mut input = [0; INPUT + 1];
+    let mut input = input_buffer();
     let n = read_full(&mut rt.reader(), &mut input)?;
     let mut out = output_buffer();
     // Never cut, for no report is longer than this output (report_laws).
