@@ -3,13 +3,17 @@ ghost use Rattle.std.specs.Prelude.{◌≡◌, ◌+◌, ◌*◌, ◌%◌};
 ghost use Rattle.cases.specs.Digest.{modulus, digest_of};
 
 // A prime, 2^61 - 1.
-const MODULUS: u128 = 2_305_843_009_213_693_951;
+const MODULUS: u64 = 2_305_843_009_213_693_951;
 
-// The digest with a number more, in 128 bits: 31 times a digest does not fit 64.
+// One more than the prime. 128 bits are divided by it in a step or two, and by the prime much more slowly.
+const POWER: u128 = 2_305_843_009_213_693_952;
+
+// The digest with a number more, in 128 bits: 31 times a digest does not fit 64. POWER leaves 1, so each of its multiples counts as 1.
 fn with_number(digest: u64, n: u64) -> u64
     ensures { result ≡ (31 * digest + n) % modulus }
 {
-    ((31 * u128::from(digest) + u128::from(n)) % MODULUS) as u64
+    let sum = 31 * u128::from(digest) + u128::from(n);
+    (sum % POWER + sum / POWER) as u64 % MODULUS
 }
 
 // The digest with more numbers taken into it, from the first on. That of no numbers is 0.
