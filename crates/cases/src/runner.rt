@@ -1,4 +1,7 @@
 // What the commands of a script do.
+ghost use Rattle.std.specs.Prelude.{◌≡◌, length};
+ghost use Rattle.statement.specs.Layout.{largest};
+
 use crate::answers::{
     effect_word, print_answer, print_digest, print_pushed, print_reason, print_stated,
     print_verdict,
@@ -15,6 +18,13 @@ use window::{Window, push};
 const UNTOUCHED: u64 = 7;
 
 const UNTOUCHED_BYTE: u8 = 165;
+
+// An output before its call, of as many bytes as the largest statement has.
+fn fresh_output() -> [u8; LARGEST]
+    ensures { largest ≡ length result }
+{
+    [UNTOUCHED_BYTE; LARGEST]
+}
 
 // Sets one number of the book or of a list of the window.
 fn set_number(numbers: &mut [u64], place: usize, number: u64) -> Result<(), Stop> {
@@ -61,7 +71,7 @@ impl<'s, 'b> Runner<'s, 'b> {
 
     // An output has no more bytes than the largest statement.
     fn print_statement(&mut self, rt: &impl Print, firm: &[u8], size: usize) -> Result<(), Stop> {
-        let mut output = [UNTOUCHED_BYTE; LARGEST];
+        let mut output = fresh_output();
         let out = output.get_mut(..size).ok_or(Stop::OutputTooLarge)?;
         let grants = self.grants;
         let answer = statement(self.schedule, self.held(), firm, grants, out);
