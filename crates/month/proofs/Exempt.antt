@@ -7,7 +7,7 @@ use mathlib.Core.Path.{◌≡◌, refl, sym, ap, ◌∙◌}
 use native.Mathlib.Nat.{le_trans, add-zero, mul-le-mul_left}
 use native.Mathlib.Omega.{arith}
 use lib.Dec.{ltb, lit≤}
-use borrow.Author.Tests.{ltb-true, le-leb, not-false}
+use borrow.Author.Tests.{ltb-true, le-leb, le-ltb, not-false}
 use Rattle.wire.specs.Choose.{within}
 use Rattle.wire.specs.Sums.{sum, count}
 use Rattle.std.specs.Cmp.{first_so, second_so}
@@ -150,3 +150,8 @@ module _ (s : Terms) (c : DailyTotals) (g : ℕ) where
         let B = s.benchmark g in
         let is = days-decided P (days s c g) (sums s c g) B (days_under 31) sums_fit b in
         exempt_code P B (days s c g) (sums s c g) ∙ ap (λ j. not (is_violation (verdict_in j).code)) (sym is)
+
+-- past the last group there are no messages
+pub exempt_past : (S : List ℕ) (l : Layout) (B : List ℕ) (f g : ℕ) → l.groups ≤ g → exempt (rules_of S) (terms S l) (totals_in l.groups B f) g ≡ true
+exempt_past S l B f g h =
+    exempt_quiet (terms S l) (totals_in l.groups B f) g (rules_of S) (λ day. rw (le-ltb g l.groups h, totals_in, cell_totals, cells) refl)

@@ -1,9 +1,7 @@
 -- There is a verdict on the sums of the counted days, and the month is exempt where its code is no violation; past the last group
 -- nothing is counted.
-use mathlib.Core.Bool.{false, not}
-use lib.Dec.{ltb}
-use borrow.Author.Tests.{le-ltb}
-use mathlib.Core.Path.{◌≡◌, refl, sym, ap, ap₂, ◌∙◌}
+use mathlib.Core.Bool.{not}
+use mathlib.Core.Path.{◌≡◌, sym, ap, ap₂, ◌∙◌}
 use Rattle.rules.specs.Month.{DailyTotals}
 use Rattle.rules.specs.Verdict.{is_violation, days_verdict}
 use Rattle.rules.specs.Constants.{clamped}
@@ -13,17 +11,14 @@ use Rattle.schedule.proofs.Found.{group-listed, rules-clamped}
 use Rattle.month.specs.Parts.{sums_to, summed_totals, verdict_in}
 use Rattle.month.specs.declared.days.MonthSums.{MonthSums}
 use Rattle.month.specs.Firm.{terms_of, totals_of}
-use Rattle.cell.specs.Cell.{cell_totals}
-use Rattle.book.specs.Book.{cells, totals_in}
-use Rattle.month.proofs.Exempt.{counted_fits, verdict_told, exempt_quiet, exempt_verdict}
+use Rattle.month.proofs.Exempt.{counted_fits, verdict_told, exempt_past, exempt_verdict}
 use Rattle.month.proofs.firm.FirmBook.is_exempt.Goals as goal
 
 pub returns-then-from-g : goal.returns-then-from-g
 returns-then-from-g c =
     let s = c.args.self.now in
-    let g = c.args.g in
-    let past : ltb g s.schedule.layout.groups ≡ false = le-ltb g _ (rw c.from.ensures at c.if-from-g.true) in
-    sym (exempt_quiet (terms_of s) (totals_of s) g (rules_of s.schedule.bytes.now) (λ day. rw (past, totals_of, totals_in, cell_totals, cells) refl))
+    let l = s.schedule.layout in
+    sym (exempt_past s.schedule.bytes.now l s.book.now s.firm c.args.g (rw c.from.ensures at c.if-from-g.true))
 
 pub returns : goal.returns
 unfolding sums_to
