@@ -15,18 +15,18 @@ pub(crate) fn say(written: io::Result<()>) {
     let _ = written;
 }
 
-// What a call answered that has a word for its answer.
+// What a call answered that has a line of its own for its answer. Nothing is formatted in it, so it is written as it stands.
 pub(crate) fn print_answer(rt: &impl Print, answer: Result<&str, Refusal>) {
     match answer {
         Err(refusal) => say(println!(rt; "{refusal}")),
-        Ok(word) => say(println!(rt; "{word}")),
+        Ok(line) => say(rt.write_all(line.as_bytes())),
     }
 }
 
-pub(crate) fn effect_word(effect: Effect) -> &'static str {
+pub(crate) fn effect_line(effect: Effect) -> &'static str {
     match effect {
-        Effect::Outside => "outside",
-        Effect::Counted => "counted",
+        Effect::Outside => "outside\n",
+        Effect::Counted => "counted\n",
     }
 }
 

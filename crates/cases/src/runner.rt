@@ -3,7 +3,7 @@ ghost use Rattle.std.specs.Prelude.{◌≡◌, length};
 ghost use Rattle.statement.specs.Layout.{largest};
 
 use crate::answers::{
-    effect_word, print_answer, print_digest, print_pushed, print_reason, print_stated,
+    effect_line, print_answer, print_digest, print_pushed, print_reason, print_stated,
     print_verdict,
 };
 use crate::commands::Command;
@@ -114,12 +114,12 @@ impl<'s, 'b> Runner<'s, 'b> {
             Command::Book { numbers } => self.make_book(numbers)?,
             Command::Write { place, number } => set_number(self.held(), place, number)?,
             Command::Open => {
-                print_answer(rt, open(self.schedule, self.held()).map(|()| "opened"));
+                print_answer(rt, open(self.schedule, self.held()).map(|()| "opened\n"));
             }
             Command::Post(record) => {
                 print_answer(
                     rt,
-                    post(self.schedule, self.held(), record).map(effect_word),
+                    post(self.schedule, self.held(), record).map(effect_line),
                 );
             }
             Command::Grants(bytes) => self.grants = bytes,
