@@ -8,7 +8,8 @@ const MODULUS: u64 = 2_305_843_009_213_693_951;
 // One more than the prime, a power of two: 128 bits are divided by it in a shift or two, and by the prime much more slowly.
 const POWER: u128 = 2_305_843_009_213_693_952;
 
-// The digest with a number more, in 128 bits: 31 times a digest does not fit 64. By the prime, POWER leaves 1, so each of its multiples counts as 1.
+// The digest with a number more, in 128 bits: 31 times a digest does not fit 64. By the prime, POWER leaves 1, so each of its multiples
+// counts as 1.
 fn with_number(digest: u64, n: u64) -> u64
     ensures { result ≡ (31 * digest + n) % modulus }
 {
